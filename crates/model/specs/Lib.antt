@@ -1,0 +1,9 @@
+pub mod Bytes
+pub mod Answers
+pub mod Terms
+pub mod Grants
+pub mod Ledgers
+pub mod Questions
+pub mod Extracts
+pub mod ShortForms
+pub mod Derivations

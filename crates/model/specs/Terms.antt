@@ -1,0 +1,113 @@
+-- Document 01, "Terms": what a term is, its codes, how bytes are read as a term, and where a term is held.
+-- Assumes nothing: these are definitions.
+use Prim.Native.Nat.{ℕ, zero, suc, _/_, _%_, _^_, _<_}
+use mathlib.Core.Bool.{Bool, true, false, cond, _&&_, _||_}
+use mathlib.Core.List.{List, [], _∷_, _++_}
+use lib.Dec.{eqb, ltb, leb}
+use lib.ListN.{length}
+use Rattle.model.specs.Bytes.{Reading, accepted, refused, require}
+use Rattle.model.specs.Answers.{Side, confidentiality, integrity}
+
+-- A name; the strongest party; the weakest; both of two terms; either of them; one side of a term.
+pub data Term : Type 0 where
+  name : ℕ → Term
+  top : Term
+  bottom : Term
+  conj : Term → Term → Term
+  disj : Term → Term → Term
+  project : Side → Term → Term
+
+-- 40 is the see side of the next term, 41 its change side.
+abbrev pub projectCode : Side → ℕ
+projectCode confidentiality = 0x40
+projectCode integrity = 0x41
+
+-- A term's codes, operator first.
+unfoldable pub codes : Term → List ℕ
+codes (name i) = i ∷ []
+codes top = 0x20 ∷ []
+codes bottom = 0x21 ∷ []
+codes (conj p q) = 0x30 ∷ codes p ++ codes q
+codes (disj p q) = 0x31 ∷ codes p ++ codes q
+codes (project s p) = projectCode s ∷ codes p
+
+-- Every name of the term has a code, 00 to 0B, and is below n.
+unfoldable pub NamesBelow : ℕ → Term → Type 0
+NamesBelow n (name i) = (i < 12) × (i < n)
+NamesBelow n top = Unit {0}
+NamesBelow n bottom = Unit {0}
+NamesBelow n (conj p q) = NamesBelow n p × NamesBelow n q
+NamesBelow n (disj p q) = NamesBelow n p × NamesBelow n q
+NamesBelow n (project s p) = NamesBelow n p
+
+-- What a byte is in a job of n names: a whole term, an operator before one term or before two, or no code.
+pub data Code : Type 0 where
+  whole : Term → Code
+  one : (Term → Term) → Code
+  two : (Term → Term → Term) → Code
+  none : Code
+
+unfoldable pub codeOf : ℕ → ℕ → Code
+codeOf n c =
+    cond (ltb c 12) (cond (ltb c n) (whole (name c)) none)
+    (cond (eqb c 0x20) (whole top)
+    (cond (eqb c 0x21) (whole bottom)
+    (cond (eqb c 0x30) (two conj)
+    (cond (eqb c 0x31) (two disj)
+    (cond (eqb c 0x40) (one (project confidentiality))
+    (cond (eqb c 0x41) (one (project integrity)) none))))))
+
+-- One term read off the front of a list, and the bytes after it; or the refusal, 2 or 3.
+pub data Front : Type 0 where
+  found : Term → List ℕ → Front
+  stopped : ℕ → Front
+
+abbrev pub onward : Front → (Term → List ℕ → Front) → Front
+onward (found t rest) next = next t rest
+onward (stopped r) next = stopped r
+
+-- Read the parts that a code asks for, each by `part`.
+abbrev pub readParts : (List ℕ → Front) → Code → List ℕ → Front
+readParts part (whole t) cs = found t cs
+readParts part (one f) cs = onward (part cs) (λ p rest. found (f p) rest)
+readParts part (two f) cs = onward (part cs) (λ p rest. onward (part rest) (λ q last. found (f p q) last))
+readParts part none cs = stopped 2
+
+-- 3 where the codes end too early. The first number bounds how deep parts have parts; the number of codes is enough.
+unfoldable pub readWithin : ℕ → ℕ → List ℕ → Front
+readWithin zero n cs = stopped 3
+readWithin (suc deep) n [] = stopped 3
+readWithin (suc deep) n (c ∷ cs) = readParts (readWithin deep n) (codeOf n c) cs
+
+abbrev pub readFront : ℕ → List ℕ → Front
+readFront n cs = readWithin (length cs) n cs
+
+-- 4 where codes are left after the term.
+abbrev pub allRead : Front → Reading Term
+allRead (found t []) = accepted t
+allRead (found t (c ∷ rest)) = refused 4
+allRead (stopped r) = refused r
+
+-- a term is 1 to 64 codes
+abbrev pub termLength : ℕ → Bool
+termLength k = leb 1 k && leb k 64
+
+-- The term that a list of bytes is in a job of n names, or the refusal, 1 to 4.
+unfoldable pub readTerm : ℕ → List ℕ → Reading Term
+readTerm n cs = require (termLength (length cs)) 1 (allRead (readFront n cs))
+
+-- Name i is a member of the coalition numbered c: c is the sum of 2^i over its members.
+unfoldable pub member : ℕ → ℕ → Bool
+member i c = eqb (c / 2 ^ i % 2) 1
+
+-- At coalition c the term is held on the side.
+unfoldable pub held : Term → Side → ℕ → Bool
+held (name i) s c = member i c
+held top s c = false
+held bottom s c = true
+held (conj p q) s c = held p s c && held q s c
+held (disj p q) s c = held p s c || held q s c
+held (project confidentiality p) confidentiality c = held p confidentiality c
+held (project confidentiality p) integrity c = true
+held (project integrity p) confidentiality c = true
+held (project integrity p) integrity c = held p integrity c

@@ -1,0 +1,5 @@
+-- Laws of the definitions, which the theorems and the code's proofs cite.
+pub mod Truth
+pub mod Search
+pub mod Judge
+pub mod Sound

@@ -7,26 +7,8 @@ use native.Mathlib.Omega.{arith}
 use Rattle.model.specs.Answers.{Side, confidentiality, integrity, Answer, Yes, No}
 use Rattle.model.specs.Grants.{Marks}
 use Rattle.model.specs.Questions.{Lowest, nowhere, at, lowest, refutes, ground, judge}
+use Rattle.model.specs.Meanings.{Holds, Before, FirstRefuter, Agree}
 use Rattle.model.proofs.Search.{IsLowest, lowest-nowhere, lowest-at, lowest-cong}
-
--- every coalition of S on the side that is one of p is one of q
-abbrev pub Holds : ℕ → Marks → Marks → Marks → Side → Type 0
-Holds n S p q s = (c : ℕ) → c < 2 ^ n → S s c ≡ true → p s c ≡ true → q s c ≡ true
-
--- the order of grounds: the see side first, then the lower number
-abbrev pub Before : Side → ℕ → Side → ℕ → Type 0
-Before confidentiality b confidentiality c = b < c
-Before confidentiality b integrity c = Unit {0}
-Before integrity b confidentiality c = ⊥
-Before integrity b integrity c = b < c
-
--- c refutes on the side s, and nothing before it does
-pub record FirstRefuter (n : ℕ) (S p q : Marks) (s : Side) (c : ℕ) : Type 0 where
-  pub below : c < 2 ^ n
-  pub is-sound : S s c ≡ true
-  pub holds : p s c ≡ true
-  pub lacks : q s c ≡ false
-  pub first : (r : Side) (b : ℕ) → b < 2 ^ n → Before r b s c → S r b ≡ true → p r b ≡ true → q r b ≡ true
 
 no-refuter : (a b d : Bool) → (a && (b && not d)) ≡ false ↔ (a ≡ true → b ≡ true → d ≡ true)
 no-refuter false b d = (λ e x y. absurd (false≢true x), λ h. refl)
@@ -143,10 +125,6 @@ module _ (n : ℕ) (S p q : Marks) where
       back : (s : Side) (c : ℕ) → FirstRefuter n S p q s c → GroundIs s c see change
       back confidentiality c r = lowest-of confidentiality c r
       back integrity c r = (none-on confidentiality .1 (λ b l. r .first confidentiality b l tt), lowest-of integrity c r)
-
--- on the coalitions of n names the two agree
-abbrev pub Agree : ℕ → Marks → Marks → Type 0
-Agree n S T = (s : Side) (c : ℕ) → c < 2 ^ n → S s c ≡ T s c
 
 -- The answer turns on the coalitions of S alone.
 pub judge-cong : (n : ℕ) (S T p q : Marks) → Agree n S T → judge n S p q ≡ judge n T p q

@@ -3,3 +3,5 @@ pub mod Truth
 pub mod Search
 pub mod Judge
 pub mod Sound
+pub mod Packed
+pub mod Table

@@ -7,15 +7,9 @@ use mathlib.Core.List.{List, [], _∷_, List·Memᴰ, List·Memᴰ·head, List·
 use Rattle.model.specs.Answers.{Side, confidentiality, integrity}
 use Rattle.model.specs.Terms.{Term, held}
 use Rattle.model.specs.Grants.{Grant, implies, within, actsStatically, visible, voice, spoken, counts, counting, sound}
+use Rattle.model.specs.Meanings.{Counts, Keeps, CountingPair, Covers}
 use Rattle.model.proofs.Truth.{clash, and-left, and-right, and-intro, implies-elim, implies-intro, bool-ext}
 use Rattle.model.proofs.Search.{within-says}
-
--- Under L the grant is visible (its label flows to L) and spoken (its label's change side acts for the voice of q).
-pub record Counts (n : ℕ) (L : Term) (g : Grant) : Type 0 where
-  pub label-seen : (c : ℕ) → c < 2 ^ n → held L confidentiality c ≡ true → held (g .label) confidentiality c ≡ true
-  pub label-changed : (c : ℕ) → c < 2 ^ n → held (g .label) integrity c ≡ true → held L integrity c ≡ true
-  pub spoken-see : (c : ℕ) → c < 2 ^ n → held (g .label) integrity c ≡ true → held (g .q) confidentiality c ≡ true
-  pub spoken-change : (c : ℕ) → c < 2 ^ n → held (g .label) integrity c ≡ true → held (g .q) integrity c ≡ true
 
 pub counts-says : (n : ℕ) (L : Term) (g : Grant) → counts n L g ≡ true ↔ Counts n L g
 unfolding counts visible spoken voice
@@ -51,10 +45,6 @@ static-says n p q = (there, λ h. and-intro (within-says n (held p confidentiali
     there : actsStatically n p q ≡ true → (s : Side) (c : ℕ) → c < 2 ^ n → held p s c ≡ true → held q s c ≡ true
     there e confidentiality = within-says n (held p confidentiality) (held q confidentiality) .0 (and-left (within n (held p confidentiality) (held q confidentiality)) (within n (held p integrity) (held q integrity)) e)
     there e integrity = within-says n (held p integrity) (held q integrity) .0 (and-right (within n (held p confidentiality) (held q confidentiality)) (within n (held p integrity) (held q integrity)) e)
-
--- a coalition is sound exactly if each of the grants whose p it holds has its q held
-abbrev pub Keeps : List Grant → Side → ℕ → Type 0
-Keeps gs s c = (g : Grant) → List·Memᴰ g gs → held (g .p) s c ≡ true → held (g .q) s c ≡ true
 
 pub sound-elim : (gs : List Grant) (s : Side) (c : ℕ) → sound gs s c ≡ true → Keeps gs s c
 unfolding sound
@@ -104,18 +94,6 @@ sound-says n L gs s c = (
   λ e g m k. sound-elim (counting n L gs) s c e g (counting-intro n L gs g m k),
   λ h. sound-intro (counting n L gs) s c (λ g m. let k = counting-elim n L gs g m in h g (k .0) (k .1)),
 )
-
--- some counting grant of the list has this p and q
-pub record CountingPair (n : ℕ) (L : Term) (gs : List Grant) (p q : Term) : Type 0 where
-  pub grant : Grant
-  pub among : List·Memᴰ grant gs
-  pub counted : counts n L grant ≡ true
-  pub same-p : grant .p ≡ p
-  pub same-q : grant .q ≡ q
-
--- each pair of p and q of a counting grant of gs is one of a counting grant of hs
-abbrev pub Covers : ℕ → Term → List Grant → List Grant → Type 0
-Covers n L gs hs = (g : Grant) → List·Memᴰ g gs → counts n L g ≡ true → CountingPair n L hs (g .p) (g .q)
 
 covers-sound : (n : ℕ) (L : Term) (gs hs : List Grant) → Covers n L hs gs → (s : Side) (c : ℕ) → sound (counting n L gs) s c ≡ true → sound (counting n L hs) s c ≡ true
 covers-sound n L gs hs k s c e = sound-says n L hs s c .1 (λ g m t. let w = k g m t in rw (w .same-p, w .same-q) at (sound-says n L gs s c .0 e (w .grant) (w .among) (w .counted)))

@@ -7,3 +7,4 @@ pub mod Questions
 pub mod Extracts
 pub mod ShortForms
 pub mod Derivations
+pub mod Meanings

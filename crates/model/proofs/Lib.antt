@@ -5,3 +5,5 @@ pub mod Judge
 pub mod Sound
 pub mod Packed
 pub mod Table
+pub mod Accepted
+pub mod Without

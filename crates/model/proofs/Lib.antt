@@ -1,0 +1,2 @@
+-- Laws of the definitions, for the theorems and for the promises of the code.
+pub mod Reading

@@ -1,2 +1,3 @@
 -- Laws of the definitions, for the theorems and for the promises of the code.
 pub mod Reading
+pub mod Refusals

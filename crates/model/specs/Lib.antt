@@ -1,6 +1,7 @@
 pub mod Bytes
 pub mod Answers
 pub mod Terms
+pub mod Refusals
 pub mod Grants
 pub mod Ledgers
 pub mod Questions

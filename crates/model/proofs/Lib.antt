@@ -1,5 +1,7 @@
 -- Laws of the definitions, which the theorems and the code's proofs cite.
 pub mod Truth
+pub mod Reading
+pub mod Refusals
 pub mod Search
 pub mod Judge
 pub mod Sound

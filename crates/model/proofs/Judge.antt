@@ -133,3 +133,13 @@ judge-cong n S T p q h = ap₂ ground (on confidentiality) (on integrity)
   where
     on : (s : Side) → lowest (refutes S p q s) (2 ^ n) ≡ lowest (refutes T p q s) (2 ^ n)
     on s = lowest-cong (refutes S p q s) (refutes T p q s) (2 ^ n) (λ c l. rw (h s c l))
+
+-- It is a yes or a no, and nothing else.
+pub judge-case : (P : Answer → Type 0) (n : ℕ) (S p q : Marks) → (judge n S p q ≡ Yes → P Yes) → ((s : Side) (c : ℕ) → judge n S p q ≡ No s c → P (No s c)) → P (judge n S p q)
+unfolding judge
+judge-case P n S p q yes-case no-case = go (lowest (refutes S p q confidentiality) (2 ^ n)) (lowest (refutes S p q integrity) (2 ^ n)) yes-case no-case
+  where
+    go : (a b : Lowest) → (ground a b ≡ Yes → P Yes) → ((s : Side) (c : ℕ) → ground a b ≡ No s c → P (No s c)) → P (ground a b)
+    go nowhere nowhere y z = y refl
+    go nowhere (at c) y z = z integrity c refl
+    go (at c) b y z = z confidentiality c refl

@@ -1,0 +1,3 @@
+// The client's demands as theorems about the definitions of crate `model`. Each is what a function without parameters ensures.
+pub mod answers;
+pub mod extracts;

@@ -7,5 +7,6 @@ pub mod Judge
 pub mod Sound
 pub mod Packed
 pub mod Table
+pub mod Same
 pub mod Accepted
 pub mod Without

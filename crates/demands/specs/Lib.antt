@@ -1,3 +1,6 @@
+pub mod Reading
 pub mod Answers
+pub mod Algebra
+pub mod Rules
 pub mod Witness
 pub mod Extracts

@@ -1,5 +1,5 @@
 -- Laws of reading terms (document 01, "Terms"): reading undoes `codes`, and what is read is `codes` of the term read. Assumes nothing.
-use Prim.Native.Nat.{ℕ, zero, suc, _+_, _<_, _≤_}
+use Prim.Native.Nat.{ℕ, zero, suc, _<_, _≤_}
 use native.Mathlib.Omega.{arith}
 use mathlib.Core.Logic.{_↔_}
 use mathlib.Core.Path.{_≡_, refl, sym, ap, _∙_}
@@ -34,11 +34,16 @@ Right n c (one f) = (p : Term) → (codes (f p) ≡ c ∷ codes p) × (NamesBelo
 Right n c (two f) = (p q : Term) → (codes (f p q) ≡ c ∷ (codes p ++ codes q)) × (NamesBelow n p → NamesBelow n q → NamesBelow n (f p q))
 Right n c none = Unit {0}
 
+name-right : (n c : ℕ) → c < 12 → (b : Bool) → (b ≡ true → c < n) → Right n c (cond b (whole (name c)) none)
+unfolding codes NamesBelow
+name-right n c h true f = (refl, (h, f refl))
+name-right n c h false f = tt
+
 pub code-right : (n c : ℕ) → Right n c (codeOf n c)
 unfolding codeOf codes NamesBelow
 code-right n c =
     cond-case (Right n c) (ltb c 12) _ _
-    (λ p. cond-case (Right n c) (ltb c n) _ _ (λ q. (refl, (ltb-true c 12 p, ltb-true c n q))) (λ q. tt))
+    (λ p. name-right n c (ltb-true c 12 p) _ (ltb-true c n))
     (λ p. cond-case (Right n c) (eqb c 0x20) _ _ (λ q. (rw (eqb-true c 0x20 q), tt))
     (λ _. cond-case (Right n c) (eqb c 0x21) _ _ (λ q. (rw (eqb-true c 0x21 q), tt))
     (λ _. cond-case (Right n c) (eqb c 0x30) _ _ (λ q a b. (rw (eqb-true c 0x30 q), λ x y. (x, y)))

@@ -1,0 +1,5 @@
+pub mod Truth
+pub mod Coalitions
+pub mod Soundness
+pub mod Principals
+pub mod Completeness

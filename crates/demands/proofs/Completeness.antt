@@ -3,7 +3,7 @@ use mathlib.Core.Path.{_≡_, refl, sym, _∙_}
 use mathlib.Core.Logic.{_⊎_, inl, inr}
 use mathlib.Core.Bool.{Bool, true, false, _&&_, _||_, true≢false, false≢true}
 use mathlib.Core.List.{List, [], _∷_, List·Memᴰ, List·Memᴰ·head, List·Memᴰ·tail}
-use Prim.Native.Nat.{ℕ, zero, suc, _+_, _<_, _^_}
+use Prim.Native.Nat.{ℕ, zero, suc, _+_, _<_}
 use native.Mathlib.Nat.{add-zero, add-suc, suc-add, zero-add}
 use native.Mathlib.Omega.{arith}
 use lib.ListN.{length}
@@ -11,9 +11,21 @@ use Rattle.model.specs.Answers.{Side, confidentiality, integrity}
 use Rattle.model.specs.Terms.{Term, name, top, bottom, conj, disj, project, NamesBelow, held}
 use Rattle.model.specs.Grants.{Grant, implies, sound}
 use Rattle.demands.specs.Algebra.{ActsFor, botR, topL, self, proj, projR, conjL₁, conjL₂, conjR, disjL, disjR₁, disjR₂, then, conj-project, disj-project, crossed, grant, GrantsBelow, Carries}
-use Rattle.demands.proofs.Truth.{and-first, and-second, and-false, or-cases, or-false-left, or-false-right, implies-false}
+use Rattle.model.proofs.Truth.{and-left, and-right, or-elim}
 use Rattle.demands.proofs.Principals.{twice, by-sides, cut}
 use Rattle.demands.proofs.Coalitions.{coalition, bitAt, coalition-below, member-bit}
+
+and-false : (a b : Bool) → a && b ≡ false → (a ≡ false) ⊎ (b ≡ false)
+and-false true b h = inr h
+and-false false b h = inl refl
+
+or-false : (a b : Bool) → a || b ≡ false → (a ≡ false) × (b ≡ false)
+or-false true b h = absurd (true≢false h)
+or-false false b h = (refl, h)
+
+implies-false : (a b : Bool) → implies a b ≡ false → (a ≡ true) × (b ≡ false)
+implies-false true b h = (refl, h)
+implies-false false b h = absurd (true≢false h)
 
 -- of the names j, j + 1, .., whose bits are bs: all the members
 abbrev members : ℕ → List Bool → Term
@@ -52,13 +64,14 @@ module _ {G : List Grant} where
     members-act s (conj p q) l h =
         then
         (conjR
-        (members-act s p (l .0) (and-first (held p s (coalition bs)) (held q s (coalition bs)) h))
-        (members-act s q (l .1) (and-second (held p s (coalition bs)) (held q s (coalition bs)) h)))
+        (members-act s p (l .0) (and-left (held p s (coalition bs)) (held q s (coalition bs)) h))
+        (members-act s q (l .1) (and-right (held p s (coalition bs)) (held q s (coalition bs)) h)))
         (conj-project s p q)
-    members-act s (disj p q) l h = elim (or-cases (held p s (coalition bs)) (held q s (coalition bs)) h) [
-        inl e ↦ then (members-act s p (l .0) e) (proj s (disjR₁ self))
-      | inr e ↦ then (members-act s q (l .1) e) (proj s (disjR₂ self))
-      ]
+    members-act s (disj p q) l h =
+        or-elim (held p s (coalition bs)) (held q s (coalition bs))
+        (λ e. then (members-act s p (l .0) e) (proj s (disjR₁ self)))
+        (λ e. then (members-act s q (l .1) e) (proj s (disjR₂ self)))
+        h
     members-act confidentiality (project confidentiality p) l h = then (members-act confidentiality p l h) (projR confidentiality)
     members-act integrity (project confidentiality p) l h = then botR (crossed confidentiality p)
     members-act confidentiality (project integrity p) l h = then botR (crossed integrity p)
@@ -71,14 +84,12 @@ module _ {G : List Grant} where
     absent-acted s top l h = proj s topL
     absent-acted s bottom l h = absurd (true≢false h)
     absent-acted s (conj p q) l h = elim (and-false (held p s (coalition bs)) (held q s (coalition bs)) h) [
-        inl e ↦ then (proj s (conjL₁ self)) (absent-acted s p (l .0) e)
+      | inl e ↦ then (proj s (conjL₁ self)) (absent-acted s p (l .0) e)
       | inr e ↦ then (proj s (conjL₂ self)) (absent-acted s q (l .1) e)
-      ]
+    ]
     absent-acted s (disj p q) l h =
-        then (disj-project s p q)
-        (disjL
-        (absent-acted s p (l .0) (or-false-left (held p s (coalition bs)) (held q s (coalition bs)) h))
-        (absent-acted s q (l .1) (or-false-right (held p s (coalition bs)) (held q s (coalition bs)) h)))
+        let e = or-false (held p s (coalition bs)) (held q s (coalition bs)) h in
+        then (disj-project s p q) (disjL (absent-acted s p (l .0) (e .0)) (absent-acted s q (l .1) (e .1)))
     absent-acted confidentiality (project confidentiality p) l h = then (proj confidentiality (absent-acted confidentiality p l h)) (twice confidentiality (absent 0 bs))
     absent-acted integrity (project confidentiality p) l h = absurd (true≢false h)
     absent-acted confidentiality (project integrity p) l h = absurd (true≢false h)
@@ -96,11 +107,11 @@ unsound : (G : List Grant) (s : Side) (c : ℕ) → sound G s c ≡ false → Br
 unfolding sound
 unsound [] s c h = absurd (true≢false h)
 unsound (g ∷ G) s c h = elim (and-false (implies (held (g .p) s c) (held (g .q) s c)) (sound G s c) h) [
-    inl e ↦ let f = implies-false (held (g .p) s c) (held (g .q) s c) e in
-        record { broken = g; among = List·Memᴰ·head refl; holds = f .0; fails = f .1 }
+  | inl e ↦ let f = implies-false (held (g .p) s c) (held (g .q) s c) e in
+      record { broken = g; among = List·Memᴰ·head refl; holds = f .0; fails = f .1 }
   | inr e ↦ let b = unsound G s c e in
-        record { broken = b .broken; among = List·Memᴰ·tail (b .among); holds = b .holds; fails = b .fails }
-  ]
+      record { broken = b .broken; among = List·Memᴰ·tail (b .among); holds = b .holds; fails = b .fails }
+]
 
 module _ (n : ℕ) (G : List Grant) (fit : GrantsBelow n G) (s : Side) (p q : Term) (pn : NamesBelow n p) (qn : NamesBelow n q) (says : Carries n G s p q) where
   -- all names are decided

@@ -1,5 +1,7 @@
-pub mod Truth
 pub mod Coalitions
 pub mod Soundness
 pub mod Principals
 pub mod Completeness
+pub mod Sides
+pub mod Exact
+pub mod SevenRules

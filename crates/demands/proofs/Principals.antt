@@ -3,7 +3,7 @@ use mathlib.Core.List.{List}
 use Rattle.model.specs.Answers.{Side, confidentiality, integrity}
 use Rattle.model.specs.Terms.{Term, bottom, conj, disj, project}
 use Rattle.model.specs.Grants.{Grant}
-use Rattle.demands.specs.Algebra.{other, ActsFor, botR, self, proj, projR, conjL₁, conjL₂, conjR, disjL, disjR₁, disjR₂, then, distr, conj-project, disj-project, basis, crossed, Same, ProjectionLaws}
+use Rattle.demands.specs.Algebra.{other, ActsFor, botR, self, proj, projR, conjL₁, conjL₂, conjR, disjL, disjR₁, disjR₂, then, distr, conj-project, disj-project, basis, crossed, ProjectionLaws}
 
 module _ {G : List Grant} where
   -- both sides together are the whole, in either order
@@ -41,5 +41,5 @@ projection-laws G = record {
   idempotent = λ s p. (twice s p, projR s);
   whole = λ p. (conjR (projR confidentiality) (projR integrity), basis);
   composed = λ s p. (botR, crossed s p);
-  apart = λ p q. (botR, apart-sides p q)
+  apart = λ p q. (botR, apart-sides p q);
 }

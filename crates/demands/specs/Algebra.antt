@@ -1,6 +1,6 @@
 -- FLAM's principal algebra (source document 000: Figure 4.1, Definitions 1, 2, 3 and 7) as a relation, and what is claimed of it.
 -- It says nothing of coalitions; the claims tie it to document 01, which speaks of nothing else. Assumes nothing: these are definitions.
-use Prim.Native.Nat.{ℕ, _^_, _<_}
+use Prim.Native.Nat.{ℕ}
 use mathlib.Core.Path.{_≡_}
 use mathlib.Core.Logic.{_↔_}
 use mathlib.Core.Bool.{true}
@@ -10,6 +10,7 @@ use Rattle.model.specs.Terms.{Term, name, top, bottom, conj, disj, project, Nam
 use Rattle.model.specs.Grants.{Grant, actsStatically, visible, spoken, counting, sound}
 use Rattle.model.specs.Ledgers.{Ledger}
 use Rattle.model.specs.Questions.{actsForUnder, flowsToUnder}
+use Rattle.model.specs.Meanings.{Holds}
 
 abbrev pub other : Side → Side
 other confidentiality = integrity
@@ -84,7 +85,7 @@ GrantsBelow n G = (g : Grant) → List·Memᴰ g G → NamesBelow n (g .p) × Na
 
 -- on a side, every sound coalition of n names that holds p holds q
 abbrev pub Carries : ℕ → List Grant → Side → Term → Term → Type 0
-Carries n G s p q = (c : ℕ) → c < 2 ^ n → sound G s c ≡ true → held p s c ≡ true → held q s c ≡ true
+Carries n G s p q = Holds n (sound G) (held p) (held q) s
 
 -- The claims. Each is the promise of a function of module `algebra`.
 
@@ -122,11 +123,11 @@ pub record HasNormalForm (t : Term) : Type 0 where
 abbrev pub NormalForms : Type 0
 NormalForms = (t : Term) → HasNormalForm t
 
--- The voice is Definition 7's: of p→ ∧ q← it is p← ∧ q←, and it is one principal however the term is written.
+-- The voice is Definition 7's: of p→ ∧ q← it is p← ∧ q←. It does not turn on how a principal is written: equal principals have equal voices.
 pub record VoiceOfNormalForms : Type 0 where
   pub definition : (G : List Grant) (p q : Term) → Unprojected p → Unprojected q
       → Same G (voiceOf (conj (project confidentiality p) (project integrity q))) (conj (project integrity p) (project integrity q))
-  pub alike : (n : ℕ) (p q : Term) → NamesBelow n p → NamesBelow n q → Same [] p q → Same [] (voiceOf p) (voiceOf q)
+  pub monotone : (p q : Term) → ActsFor [] p q → ActsFor [] (voiceOf p) (voiceOf q)
 
 -- Definitions 1 and 2: all their properties, under any grants. Both projections are authority projections (1), and they are a basis (2).
 pub record ProjectionLaws (G : List Grant) : Type 0 where

@@ -2,6 +2,7 @@
 -- Assumes nothing: these are definitions.
 use Prim.Native.Nat.{ℕ}
 use mathlib.Core.Path.{_≡_}
+use mathlib.Core.Logic.{_↔_}
 use mathlib.Core.Bool.{true}
 use mathlib.Core.List.{List, List·Memᴰ}
 use Rattle.model.specs.Answers.{Side, Yes}
@@ -11,7 +12,8 @@ use Rattle.model.specs.Ledgers.{Ledger}
 use Rattle.model.specs.Questions.{actsForUnder}
 use Rattle.demands.specs.Algebra.{GrantsBelow, Carries}
 
--- `Derives n G p q`: a tree whose last step has p and q, G being the grants that count. All its terms are terms of n names if those of G are.
+-- `Derives n G p q`: a tree whose last step has p and q, G being the grants that count.
+-- Rule 1 takes terms of n names, as a step's terms are, and no other rule brings in a name that neither a premise nor a grant has.
 pub data Derives (n : ℕ) (G : List Grant) : Term → Term → Type 0 where
   -- p statically acts for q
   rule1 : {p q : Term} → NamesBelow n p → NamesBelow n q → actsStatically n p q ≡ true → Derives n G p q
@@ -36,3 +38,10 @@ RulesAreComplete =
     (n : ℕ) (G : List Grant) (p q : Term)
     → GrantsBelow n G → NamesBelow n p → NamesBelow n q
     → ((s : Side) → Carries n G s p q) → Derives n G p q
+
+-- So a yes under a label is what the rules derive from the grants that count under it.
+abbrev pub YesIsDerived : Type 0
+YesIsDerived =
+    (l : Ledger) (L p q : Term)
+    → GrantsBelow (l .names) (l .grants) → NamesBelow (l .names) p → NamesBelow (l .names) q
+    → (actsForUnder l L p q ≡ Yes) ↔ Derives (l .names) (counting (l .names) L (l .grants)) p q

@@ -1,3 +1,4 @@
+-- The theorems' proofs; a function's own proof only cites them.
 pub mod Coalitions
 pub mod Soundness
 pub mod Principals
@@ -5,3 +6,4 @@ pub mod Completeness
 pub mod Sides
 pub mod Exact
 pub mod SevenRules
+pub mod Below

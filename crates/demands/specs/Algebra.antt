@@ -1,5 +1,5 @@
 -- FLAM's principal algebra (source document 000: Figure 4.1, Definitions 1, 2, 3 and 7) as a relation, and what is claimed of it.
--- It says nothing of coalitions; the claims tie it to document 01, which speaks of nothing else. Assumes nothing: these are definitions.
+-- The relation knows no coalitions, and document 01 asks nothing else: the claims tie the two. Assumes nothing: these are definitions.
 use Prim.Native.Nat.{ℕ}
 use mathlib.Core.Path.{_≡_}
 use mathlib.Core.Logic.{_↔_}
@@ -12,32 +12,44 @@ use Rattle.model.specs.Ledgers.{Ledger}
 use Rattle.model.specs.Questions.{actsForUnder, flowsToUnder}
 use Rattle.model.specs.Meanings.{Holds}
 
+-- a side's other side
 abbrev pub other : Side → Side
 other confidentiality = integrity
 other integrity = confidentiality
 
 -- `ActsFor G p q`: from the grants G, p acts for q.
 pub data ActsFor (G : List Grant) : Term → Term → Type 0 where
-  -- Figure 4.1, rule by rule: BOT, TOP, REFL, PROJ, PROJR, CONJL for k = 1 and 2, CONJR, DISJL, DISJR for k = 1 and 2, TRANS
+  -- Figure 4.1, BOT
   botR : {p : Term} → ActsFor G p bottom
+  -- TOP
   topL : {p : Term} → ActsFor G top p
+  -- REFL
   self : {p : Term} → ActsFor G p p
+  -- PROJ
   proj : (s : Side) {p q : Term} → ActsFor G p q → ActsFor G (project s p) (project s q)
+  -- PROJR
   projR : (s : Side) {p : Term} → ActsFor G p (project s p)
+  -- CONJL, k = 1 and k = 2
   conjL₁ : {p₁ p₂ p : Term} → ActsFor G p₁ p → ActsFor G (conj p₁ p₂) p
   conjL₂ : {p₁ p₂ p : Term} → ActsFor G p₂ p → ActsFor G (conj p₁ p₂) p
+  -- CONJR
   conjR : {p p₁ p₂ : Term} → ActsFor G p p₁ → ActsFor G p p₂ → ActsFor G p (conj p₁ p₂)
+  -- DISJL
   disjL : {p₁ p₂ p : Term} → ActsFor G p₁ p → ActsFor G p₂ p → ActsFor G (disj p₁ p₂) p
+  -- DISJR, k = 1 and k = 2
   disjR₁ : {p p₁ p₂ : Term} → ActsFor G p p₁ → ActsFor G p (disj p₁ p₂)
   disjR₂ : {p p₁ p₂ : Term} → ActsFor G p p₂ → ActsFor G p (disj p₁ p₂)
+  -- TRANS
   then : {p q r : Term} → ActsFor G p q → ActsFor G q r → ActsFor G p r
-  -- the lattice is distributive, "as in Boolean algebra"; the other half follows
+  -- the lattice is distributive ("as in Boolean algebra", section 3.2); the other half follows
   distr : {p q r : Term} → ActsFor G (conj p (disj q r)) (disj (conj p q) (conj p r))
-  -- Definition 1, properties 3 and 4: the halves that the rules above do not give
+  -- Definition 1, property 3: the half that Figure 4.1 does not give
   conj-project : (s : Side) (p q : Term) → ActsFor G (conj (project s p) (project s q)) (project s (conj p q))
+  -- Definition 1, property 4: likewise
   disj-project : (s : Side) (p q : Term) → ActsFor G (project s (disj p q)) (disj (project s p) (project s q))
-  -- Definition 2, properties 1 and 2: likewise
+  -- Definition 2, property 1: likewise
   basis : {p : Term} → ActsFor G (conj (project confidentiality p) (project integrity p)) p
+  -- Definition 2, property 2: likewise; its property 3 follows
   crossed : (s : Side) (p : Term) → ActsFor G bottom (project (other s) (project s p))
   -- an assumption: a grant
   grant : {g : Grant} → List·Memᴰ g G → ActsFor G (g .p) (g .q)
@@ -129,7 +141,7 @@ pub record VoiceOfNormalForms : Type 0 where
       → Same G (voiceOf (conj (project confidentiality p) (project integrity q))) (conj (project integrity p) (project integrity q))
   pub monotone : (p q : Term) → ActsFor [] p q → ActsFor [] (voiceOf p) (voiceOf q)
 
--- Definitions 1 and 2: all their properties, under any grants. Both projections are authority projections (1), and they are a basis (2).
+-- Definitions 1 and 2 in full, under any grants: the five properties of an authority projection, and the three of the basis.
 pub record ProjectionLaws (G : List Grant) : Type 0 where
   pub weaker : (s : Side) (p : Term) → ActsFor G p (project s p)
   pub monotone : (s : Side) (p q : Term) → ActsFor G p q → ActsFor G (project s p) (project s q)

@@ -10,3 +10,4 @@ pub mod SevenRules
 pub mod Below
 pub mod Telling
 pub mod Comparing
+pub mod Deriving

@@ -4,3 +4,4 @@ pub mod Algebra
 pub mod Rules
 pub mod Witness
 pub mod Extracts
+pub mod Derivations

@@ -11,3 +11,4 @@ pub mod Below
 pub mod Telling
 pub mod Comparing
 pub mod Deriving
+pub mod Tried

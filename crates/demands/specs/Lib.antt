@@ -5,3 +5,4 @@ pub mod Rules
 pub mod Witness
 pub mod Extracts
 pub mod Derivations
+pub mod Cases

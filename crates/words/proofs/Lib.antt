@@ -2,3 +2,4 @@
 pub mod Packing
 pub mod Names
 pub mod Steps
+pub mod Searches

@@ -2,7 +2,7 @@
 use mathlib.Core.Path.{_≡_, refl, sym, ap, ap₂, _∙_, subst}
 use mathlib.Core.Bool.{Bool, true, false}
 use Prim.Native.Nat.{ℕ, zero, suc, _+_, _-_, _*_, _/_, _%_, _^_, _≤_, _<_, min}
-use native.Mathlib.Nat.{le-of-lt, one-mul, mod-eq-of-lt, div-lt-iff-lt-mul}
+use native.Mathlib.Nat.{le-trans, le-of-lt, le-of-eq, one-mul, mod-eq-of-lt, div-lt-iff-lt-mul}
 use native.Mathlib.Decide.{decLt}
 use lib.Arith.{lt-one}
 use native.Mathlib.Omega.{arith}
@@ -76,8 +76,8 @@ coalitions-low n w h e =
 pub shift-lt : (n : ℕ) → n < 6 → 1 * 2 ^ n % 2 ^ 64 < 64
 shift-lt = below-six (λ n. 1 * 2 ^ n % 2 ^ 64 < 64) (lit< tt) (lit< tt) (lit< tt) (lit< tt) (lit< tt) (lit< tt)
 
-pub shifted-pos : (n : ℕ) → n < 6 → 1 ≤ 1 * 2 ^ (1 * 2 ^ n % 2 ^ 64) % 2 ^ 64
-shifted-pos = below-six (λ n. 1 ≤ 1 * 2 ^ (1 * 2 ^ n % 2 ^ 64) % 2 ^ 64) (lit< tt) (lit< tt) (lit< tt) (lit< tt) (lit< tt) (lit< tt)
+pub shifted-two : (n : ℕ) → n < 6 → 2 ≤ 1 * 2 ^ (1 * 2 ^ n % 2 ^ 64) % 2 ^ 64
+shifted-two = below-six (λ n. 2 ≤ 1 * 2 ^ (1 * 2 ^ n % 2 ^ 64) % 2 ^ 64) (lit< tt) (lit< tt) (lit< tt) (lit< tt) (lit< tt) (lit< tt)
 
 pub coalitions-after : (n w : ℕ) → n < 6 → (w ≡ 0 → ⊥) → 0 ≡ coalitionWord n w
 coalitions-after n w h e = coalitions-none n w (omega (arith, pow-mono (le-of-lt h)))
@@ -121,3 +121,12 @@ words-shift n h =
 
 pub words-most : (n : ℕ) → 12 ≤ n → 64 ≡ wordsOf n
 words-most n h = let e : min n 12 - 6 ≡ 6 = omega arith in ap (λ (x : ℕ). 2 ^ x) (sym e)
+
+pub words-few : (n : ℕ) → wordsOf n ≤ 64
+words-few n = let m : min n 12 - 6 ≤ 6 = omega arith in pow-mono m
+
+-- no coalition stands past the last word
+pub words-enough : (n : ℕ) → n ≤ 12 → 2 ^ n ≤ 64 * wordsOf n
+words-enough n h =
+    let m : n ≤ 6 + (min n 12 - 6) = omega arith in
+    le-trans (pow-mono m) (le-of-eq (pow-add 2 6 (min n 12 - 6)))

@@ -1,18 +1,16 @@
 -- The laws of packed marks: a word of k bits, bit j of which is f (i + j), under the code's operations. Each over every start i and width k. Assumes nothing.
-use mathlib.Core.Path.{_≡_, refl, sym, ap, ap₂, _∙_, subst}
+use mathlib.Core.Path.{_≡_, refl, sym, ap, ap₂, _∙_}
 use mathlib.Core.Bool.{Bool, true, false, not, _&&_, _||_}
 use mathlib.Core.Logic.{_↔_}
-use Prim.Native.Nat.{ℕ, zero, suc, _+_, _-_, _*_, _/_, _%_, _^_, _≤_, _<_, zero-le, suc-le-suc, min, max}
-use native.Mathlib.Nat.{zero-add, le-of-suc-le-suc, not-suc-le-zero, zero-lt-suc, le-refl, add-zero, add-suc, suc-add, pow-suc, mul-comm, mul-assoc}
+use Prim.Native.Nat.{ℕ, zero, suc, _+_, _-_, _*_, _/_, _%_, _^_, _≤_, _<_, suc-le-suc, min, max}
+use native.Mathlib.Nat.{zero-add, le-of-suc-le-suc, not-suc-le-zero, zero-lt-suc, add-zero, add-suc, suc-add, pow-suc, mul-comm, mul-assoc}
 use native.Mathlib.Omega.{arith}
 use native.Mathlib.Decide.{decLt}
-use native.Mathlib.Numerals.{add-one}
-use lib.Dec.{eqb}
 use lib.Pow.{pow-pos, high, low}
 use lib.Bits.{bitAnd, bitOr, and-step, or-step}
 use lib.Count.{trailingZeros, under}
-use Rattle.model.specs.Terms.{member}
 use Rattle.model.specs.Extracts.{bit, packed}
+use Rattle.model.proofs.Packed.{packed-lt}
 use Rattle.words.specs.Evaluation.{LowestMark, LowestBit}
 
 bit-lt : (b : Bool) → bit b < 2
@@ -85,9 +83,6 @@ packed-both f i (suc k) = omega (arith, packed-both f (suc i) k, not-bit (f i), 
 pub packed-not : (f : ℕ → Bool) (i k : ℕ) → 2 ^ k - 1 - packed f i k ≡ packed (λ c. not (f c)) i k
 packed-not f i k = omega (arith, packed-both f i k)
 
-pub packed-lt : (f : ℕ → Bool) (i k : ℕ) → packed f i k < 2 ^ k
-packed-lt f i k = omega (arith, packed-both f i k, pow-pos k)
-
 pub packed-none : (i k : ℕ) → packed (λ c. false) i k ≡ 0
 unfolding packed
 packed-none i zero = refl
@@ -138,20 +133,6 @@ packed-part f i k a b h =
 -- byte k of a word, as the extract holds it
 pub packed-byte : (f : ℕ → Bool) (w k : ℕ) → k < 8 → packed f (64 * w) 64 / 2 ^ (8 * k) % 256 ≡ packed f (64 * w + 8 * k) 8
 packed-byte f w k h = packed-part f (64 * w) 64 (8 * k) 8 (omega arith)
-
-bit-eqb : (b : Bool) → eqb (bit b) 1 ≡ b
-bit-eqb false = refl
-bit-eqb true = refl
-
-packed-one : (f : ℕ → Bool) (i : ℕ) → packed f i 1 ≡ bit (f i)
-unfolding packed
-packed-one f i = omega arith
-
--- bit m of the word says whether the m-th mark is set
-pub member-packed : (f : ℕ → Bool) (i k m : ℕ) → m < k → member m (packed f i k) ≡ f (i + m)
-unfolding member
-member-packed f i k m h =
-    ap (λ (x : ℕ). eqb x 1) (packed-part f i k m 1 (omega arith) ∙ packed-one f (i + m)) ∙ bit-eqb (f (i + m))
 
 trailing-step : (f : ℕ → Bool) (i k : ℕ) → trailingZeros (suc k) (packed f i (suc k)) ≡ under (bit (f i)) (trailingZeros k (packed f (suc i) k))
 unfolding trailingZeros

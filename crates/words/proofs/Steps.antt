@@ -1,18 +1,19 @@
 -- What `hold` does at each code gives the words of the term that stands there. Assumes nothing.
 use mathlib.Core.Path.{_≡_, refl, sym, ap, ap₂, _∙_, subst}
-use mathlib.Core.Bool.{Bool, true, false, cond}
+use mathlib.Core.Bool.{true, false}
 use mathlib.Core.List.{List, [], _∷_, _++_, append-assoc, append-nil}
-use Prim.Native.Nat.{ℕ, zero, suc, _+_, _-_, _*_, _≤_, _<_}
+use Prim.Native.Nat.{ℕ, suc, _+_, _*_, _≤_, _<_}
 use native.Mathlib.Nat.{le-refl}
 use native.Mathlib.Numerals.{add-one}
 use native.Mathlib.Omega.{arith}
-use borrow.Author.Tests.{lt-ltb, le-ltb, ne-eqb}
+use borrow.Author.Tests.{le-ltb, ne-eqb}
 use lib.Bits.{bitAnd, bitOr}
 use lib.ListN.{length, drop, getD, length-append, length-drop}
 use lib.Seq.{drop-cons, drop-drop, drop-append-seam}
 use Rattle.model.specs.Answers.{Side, confidentiality, integrity}
 use Rattle.model.specs.Terms.{Term, name, top, bottom, conj, disj, project, Code, whole, one, two, none, codeOf, codes, NamesBelow, member, held}
 use Rattle.model.specs.Extracts.{packed}
+use Rattle.model.proofs.Reading.{codes-some, code-name}
 use Rattle.words.specs.Evaluation.{heldWord, HeldAt, Evaluated, EvaluatedWhole}
 use Rattle.words.proofs.Packing.{packed-and, packed-or, packed-none, packed-all}
 
@@ -23,10 +24,6 @@ After P n l rest (one f) = (p : Term) → NamesBelow n p → l ≡ codes p ++ re
 After P n l rest (two f) = (p q : Term) → NamesBelow n p → NamesBelow n q → l ≡ codes p ++ (codes q ++ rest) → P (f p q)
 After P n l rest none = Unit {0}
 
-at-name : (i : ℕ) → i < 12 → codeOf 12 i ≡ whole (name i)
-unfolding codeOf
-at-name i h = rw (lt-ltb i 12 h) refl
-
 -- by the first code of the bytes, as the reader takes it
 pub at-code : (P : Term → Type 0) (n b : ℕ) (l rest : List ℕ) → After P n l rest (codeOf 12 b)
     → (t : Term) → (b ∷ l) ≡ (codes t ++ rest) → NamesBelow n t → P t
@@ -34,7 +31,7 @@ unfolding codeOf codes NamesBelow
 at-code P n b l rest h (name i) e named =
     let s : b ≡ i = cc in
     let r : l ≡ rest = cc in
-    subst (After P n l rest) (ap (codeOf 12) s ∙ at-name i (named .0)) h r
+    subst (After P n l rest) (ap (codeOf 12) s ∙ code-name 12 i (named .0) (named .0)) h r
 at-code P n b l rest h top e named =
     let s : b ≡ 0x20 = cc in
     let r : l ≡ rest = cc in
@@ -60,15 +57,6 @@ at-code P n b l rest h (project integrity p) e named =
     let r : l ≡ codes p ++ rest = cc in
     subst (λ (x : ℕ). After P n l rest (codeOf 12 x)) s h p named r
 
-codes-some : (t : Term) → 1 ≤ length (codes t)
-unfolding codes
-codes-some (name i) = omega arith
-codes-some top = omega arith
-codes-some bottom = omega arith
-codes-some (conj p q) = omega arith
-codes-some (disj p q) = omega arith
-codes-some (project s p) = omega arith
-
 -- past the end stands no term
 pub eval-end : (s : List ℕ) (at w : ℕ) → length s ≤ at → Evaluated s at w 0 0 at
 eval-end s at w h = record {
@@ -89,7 +77,7 @@ module _ (s : List ℕ) (at w : ℕ) (h : at < length s) where
   pub eval-name : (x : ℕ) → getD s at 0 < 12 → x ≡ packed (member (getD s at 0)) (64 * w) 64 → Evaluated s at w x x (at + 1)
   unfolding held codes
   eval-name x l e = eval (getD s at 0) x x (at + 1) refl (omega arith)
-      (λ n rest. rw (at-name (getD s at 0) l) (λ r. record { see-word = e; change-word = e; past = refl }))
+      (λ n rest. rw (code-name 12 (getD s at 0) l l) (λ r. record { see-word = e; change-word = e; past = refl }))
 
   nothing : 0 ≡ packed (λ c. false) (64 * w) 64
   nothing = sym (packed-none (64 * w) 64)

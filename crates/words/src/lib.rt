@@ -5,7 +5,9 @@ ghost use Rattle.model.specs.Terms.{member};
 ghost use Rattle.model.specs.Extracts.{packed};
 ghost use Rattle.words.specs.Evaluation.{coalitionWord, wordsOf, Evaluated, EvaluatedWhole, LowestBit};
 
-// Every bit set.
+// The word of the strongest party, held nowhere, and that of the weakest, held everywhere.
+const NONE: u64 = 0;
+
 const ALL: u64 = 0xFFFF_FFFF_FFFF_FFFF;
 
 // The coalitions of word w that have name i as a member.
@@ -54,8 +56,8 @@ pub fn hold(codes: &[u8], at: usize, w: u64) -> Held
     }
     match code {
         0x20 => Held {
-            see: 0,
-            change: 0,
+            see: NONE,
+            change: NONE,
             next: next,
         },
         0x21 => Held {

@@ -1,7 +1,7 @@
 -- `words::low_mask` meets its contract. Assumes nothing.
 use native.Mathlib.Omega.{arith}
 use borrow.Author.Needs.{needs}
-use Rattle.words.proofs.Names.{coalitions-low, coalitions-after, coalitions-in, coalitions-out, shift-lt, shifted-pos, quotient-zero, quotient-pos, many-words}
+use Rattle.words.proofs.Names.{coalitions-low, coalitions-after, coalitions-in, coalitions-out, shift-lt, shifted-two, quotient-zero, quotient-pos, many-words}
 use Rattle.words.proofs.low_mask.Statement.{statement}
 use Rattle.words.proofs.low_mask.Tie as tie
 use Rattle.words.proofs.low_mask.Reads as reads
@@ -14,7 +14,7 @@ shl-result : tie.Need-shl-result
 shl-result c = shift-lt _ (c .before .if1 .taken)
 
 sub-result : tie.Need-sub-result
-sub-result c = shifted-pos _ (c .before .if1 .taken)
+sub-result c = omega (arith, shifted-two _ (c .before .if1 .taken))
 
 returns : tie.Need-returns
 returns c = coalitions-low _ _ (c .before .if1 .taken) (c .if2 .taken)

@@ -26,14 +26,15 @@ fn name_word(i: u8, w: u64) -> u64
     }
 }
 
-// A word of a term on both sides, and the place after the term's codes.
+// A word of a term on both sides, and the place after the term's codes. The place stands between the words: side by side they
+// are written one by one and read back as a pair, which costs a quarter of the time.
 pub struct Held {
     pub see: u64,
-    pub change: u64,
     pub next: usize,
+    pub change: u64,
 }
 
-// Word w of the term whose codes start at `at`. Bytes that are no code, or end too early, are for the term reader to refuse: here they only must not stop the walk.
+// Word w of the term whose codes start at `at`. Bytes that are no term are for the term reader to refuse; the walk ends on them too.
 pub fn hold(codes: &[u8], at: usize, w: u64) -> Held
     ensures { λ r. ⌜ Evaluated (now (codes .entry)) at w (r .see) (r .change) (r .next) ⌝ }
 {

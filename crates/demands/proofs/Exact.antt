@@ -12,7 +12,7 @@ use Rattle.model.specs.Questions.{across, soundUnder, actsForUnder, flowsToUnde
 use Rattle.model.specs.Meanings.{Holds}
 use Rattle.model.proofs.Truth.{and-intro, and-left, and-right}
 use Rattle.model.proofs.Search.{within-says}
-use Rattle.model.proofs.Judge.{judge-yes}
+use Rattle.model.proofs.Judge.{judge-yes, flows-yes}
 use Rattle.model.proofs.Sound.{static-says, counting-elim}
 use Rattle.demands.specs.Algebra.{GrantsBelow, Carries, voiceOf, ActsForByCoalitions, FlowsToByCoalitions, StaticIsActsFor, VisibleIsFlowsTo, SpokenIsActsForVoice, YesIsActsFor, YesIsFlowsTo}
 use Rattle.demands.proofs.Soundness.{soundness}
@@ -105,18 +105,7 @@ yes-acts l L p q fit pn qn =
     (Iff·symm (acts-for (l .names) (counting (l .names) L (l .grants)) p q (counting-below (l .names) L (l .grants) fit) pn qn))
 
 pub yes-flows : YesIsFlowsTo
-unfolding flowsToUnder soundUnder across
+unfolding soundUnder
 yes-flows l L p q fit pn qn =
-    Iff·trans (judge-yes n (soundUnder l L) (across q p) (across p q))
-    (Iff·trans (λ f. (f confidentiality, f integrity), back)
-    (Iff·symm (flows-to n G p q (counting-below n L (l .grants) fit) pn qn)))
-  where
-    n : ℕ
-    n = l .names
-
-    G : List Grant
-    G = counting (l .names) L (l .grants)
-
-    back : Carries n G confidentiality q p × Carries n G integrity p q → (s : Side) → Holds n (soundUnder l L) (across q p) (across p q) s
-    back f confidentiality = f .0
-    back f integrity = f .1
+    Iff·trans (flows-yes l L p q)
+    (Iff·symm (flows-to (l .names) (counting (l .names) L (l .grants)) p q (counting-below (l .names) L (l .grants) fit) pn qn))

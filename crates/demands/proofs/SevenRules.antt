@@ -13,7 +13,8 @@ use Rattle.model.proofs.Truth.{and-intro, and-left, and-right, or-elim, cond-ca
 use Rattle.model.proofs.Sound.{static-says, sound-elim}
 use Rattle.demands.specs.Algebra.{ActsFor, botR, topL, self, proj, projR, conjL₁, conjL₂, conjR, disjL, disjR₁, disjR₂, then, distr, conj-project, disj-project, basis, crossed, grant, GrantsBelow}
 use Rattle.demands.specs.Rules.{Derives, rule1, rule2, rule3, rule4, rule5, rule6-7, RulesAreSound, RulesAreComplete, YesIsDerived}
-use Rattle.demands.proofs.Soundness.{project-held, soundness}
+use Rattle.model.proofs.Held.{project-held}
+use Rattle.demands.proofs.Soundness.{soundness}
 use Rattle.demands.proofs.Completeness.{completeness}
 use Rattle.demands.proofs.Exact.{static-carries, counting-below, yes-carries}
 

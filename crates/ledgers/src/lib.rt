@@ -1,12 +1,15 @@
 // The ledger: its blocks' checks, the reader with its refusals, and the parts where the grants' terms stand.
+use terms::TermReading;
+
 ghost use mathlib.Core.Path.{_≡_};
 ghost use mathlib.Core.Bool.{_&&_};
 ghost use Prim.Native.Nat.{_+_, _*_, _≤_, _<_};
 ghost use lib.ListN.{length, take};
 ghost use Rattle.model.specs.Bytes.{byte, field, twoBytes, zeros};
-ghost use Rattle.model.specs.Ledgers.{weighted, checked, header, grantBlocks, allChecked, headerForm, grantForm, pBytes, qBytes, labelBytes};
+ghost use Rattle.model.specs.Ledgers.{weighted, checked, header, grantBlocks, allChecked, headerForm, grantForm, pBytes, qBytes, labelBytes, refusedAs, readTerms, readGrant, readGrants, ledgerLength, readLedger};
 ghost use Rattle.model.specs.Derivations.{grantBlock};
 ghost use Rattle.ledgers.specs.Forms.{termForm};
+ghost use Rattle.ledgers.specs.Readings.{grantReading, grantRefusal, ledgerReading};
 
 // The sum of (i + 1) × byte i over the 510 bytes before a block's check.
 fn weight(block: &[u8]) -> u32
@@ -131,6 +134,121 @@ fn grant_form(block: &[u8]) -> bool
         return false;
     }
     term_form(block, 3, 144, 366)
+}
+
+// What reading a grant's block gives, or the blocks of all grants.
+pub enum GrantReading {
+    Accepted,
+    // The number of the refusal, 13 or 14.
+    Refused(u8),
+}
+
+// What reading a ledger gives.
+pub enum LedgerReading {
+    // The number of names, and of grants.
+    Accepted { names: u64, grants: usize },
+    // The number of the refusal, 10 to 14.
+    Refused(u8),
+}
+
+// The three terms of a grant's block, each read as a part of the block.
+fn read_terms(block: &[u8], n: u64) -> GrantReading
+    requires { ⌜ 512 ≤ length (now block) ⌝ }
+    ensures { λ r. ⌜ r ≡ grantReading (refusedAs 14 (readTerms n (now (block .entry)))) ⌝ }
+{
+    let len = block[1] as usize;
+    let p = terms::read_term(&block[16..16 + len], n);
+    let TermReading::Accepted = p else {
+        return GrantReading::Refused(14);
+    };
+    let len = block[2] as usize;
+    let q = terms::read_term(&block[80..80 + len], n);
+    let TermReading::Accepted = q else {
+        return GrantReading::Refused(14);
+    };
+    let len = block[3] as usize;
+    let label = terms::read_term(&block[144..144 + len], n);
+    let TermReading::Accepted = label else {
+        return GrantReading::Refused(14);
+    };
+    GrantReading::Accepted
+}
+
+// The block of a grant in a job of n names.
+fn read_grant(block: &[u8], n: u64) -> GrantReading
+    requires { ⌜ 512 ≤ length (now block) ⌝ }
+    ensures { λ r. ⌜ r ≡ grantReading (readGrant n (now (block .entry))) ⌝ }
+{
+    let form = grant_form(block);
+    if !form {
+        return GrantReading::Refused(13);
+    }
+    read_terms(block, n)
+}
+
+// The blocks of all grants, one after another.
+fn read_grants(ledger: &[u8], n: u64) -> GrantReading
+    ensures { λ r. ⌜ r ≡ grantReading (readGrants n (grantBlocks (now (ledger .entry)))) ⌝ }
+{
+    let blocks = ledger.len() / 512;
+    let mut k: usize = 1;
+    while k < blocks {
+        let at = 512 * k;
+        let grant = read_grant(&ledger[at..at + 512], n);
+        let GrantReading::Accepted = grant else {
+            return grant;
+        };
+        k += 1;
+    }
+    GrantReading::Accepted
+}
+
+// The number of the refusal of a grant, 0 where there is none.
+fn grant_refusal(reading: GrantReading) -> u8
+    ensures { λ k. ⌜ k ≡ grantRefusal reading ⌝ }
+{
+    match reading {
+        GrantReading::Accepted => 0,
+        GrantReading::Refused(k) => k,
+    }
+}
+
+// A multiple of 512 from 512 to 33,280: block 0 and at most 64 grants.
+fn length_fits(len: usize) -> bool
+    ensures { λ r. ⌜ r ≡ ledgerLength len ⌝ }
+{
+    if len % 512 != 0 {
+        return false;
+    }
+    512 <= len && len <= 33280
+}
+
+// Reads a ledger.
+pub fn read_ledger(ledger: &[u8]) -> LedgerReading
+    ensures { λ r. ⌜ r ≡ ledgerReading (readLedger (now (ledger .entry))) ⌝ }
+{
+    let fits = length_fits(ledger.len());
+    if !fits {
+        return LedgerReading::Refused(10);
+    }
+    let checks = all_checks(ledger);
+    if !checks {
+        return LedgerReading::Refused(11);
+    }
+    let count = ledger.len() / 512 - 1;
+    let form = header_form(&ledger[..512], count);
+    if !form {
+        return LedgerReading::Refused(12);
+    }
+    let n = ledger[1] as u64;
+    let grants = read_grants(ledger, n);
+    let GrantReading::Accepted = grants else {
+        return LedgerReading::Refused(grant_refusal(grants));
+    };
+    LedgerReading::Accepted {
+        names: n,
+        grants: count,
+    }
 }
 
 // The bytes that start at `at`, as many as `len` or as there are.

@@ -2,3 +2,4 @@
 pub mod Reading
 pub mod Refusals
 pub mod Blocks
+pub mod AcceptedLedgers

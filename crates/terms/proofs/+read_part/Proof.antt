@@ -1,289 +1,174 @@
-use Prim.Native.Nat.{ℕ, _<_}
+-- The proof of the cycle of calls {read_part}. The measure is the number of codes left from `at` on. Each return is a case of `partAt`,
+-- by the shape of the code at `at` (`proofs/Places.antt`). Assumes nothing.
+use Prim.Native.Nat.{ℕ, _<_, _-_, _+_}
+use native.Mathlib.Omega.{arith}
+use lib.ListN.{length}
+use mathlib.Core.Path.{_≡_, sym, _∙_}
+use borrow.Author.Needs.{needs}
+use Rattle.terms.specs.Readings.{partAt}
+use Rattle.terms.proofs.Places.{part-end, part-whole, part-one, part-two, part-two-stop, part-none, part-ahead}
 use borrow.Fn.Kinds.{In}
 use borrow.Fn.PlainCycle.{Measures, is, falls, and}
-use Rattle.terms.proofs.read_part.Reads as read-part
-use Rattle.terms.proofs.read_part.Kinds as read-part-kinds
-use Rattle.terms.proofs.+read_part.Lts-read_part as read-part-lts
+use Rattle.terms.proofs.read_part.Reads as reads
+use Rattle.terms.proofs.read_part.Kinds as kinds
+use Rattle.terms.proofs.+read_part.Lts-read_part as lts
 use Rattle.terms.proofs.shape_of.Reads as shape-of-reads
 use Rattle.terms.proofs.+read_part.{statement}
 use Rattle.terms.proofs.+read_part.Tie.{close}
 
-abbrev μ-read-part : Measures 1 read-part-kinds.ps ℕ
-μ-read-part κs a = ?
+abbrev μ : Measures 1 kinds.ps ℕ
+μ κs a = length (a .0 .now) - a .1 .0
 
-abbrev read-part-at : ℕ → In 1 read-part-kinds.ps
-read-part-at t = and 1 read-part-kinds.ps (is 1 read-part-kinds.ps μ-read-part t) read-part.Pre
+abbrev before : ℕ → In 1 kinds.ps
+before t = and 1 kinds.ps (is 1 kinds.ps μ t) reads.Pre
 
-abbrev read-part-below : ℕ → In 1 read-part-kinds.ps
-read-part-below t =
-    and 1 read-part-kinds.ps (falls 1 read-part-kinds.ps _<_ μ-read-part t) read-part.Pre
+abbrev below : ℕ → In 1 kinds.ps
+below t = and 1 kinds.ps (falls 1 kinds.ps _<_ μ t) reads.Pre
 
--- src/lib.rt:58:9
-read-part-returns : (t : ℕ) → read-part-lts.Need-returns (
-  shape-of-reads.Asked,
-  shape-of-reads.Learnt,
-  read-part-below t,
-  read-part.Post,
-) (read-part-at t) read-part.Post
-read-part-returns t c = ?
+module _ (t : ℕ) where
+  abbrev claims : lts.Claims
+  claims = (shape-of-reads.Asked, shape-of-reads.Learnt, below t, reads.Post)
 
--- src/lib.rt:60:25
-read-part-shared-slice-read-shape-of : (t : ℕ) → read-part-lts.Need-shared-slice-read-shape-of (
-  shape-of-reads.Asked,
-  shape-of-reads.Learnt,
-  read-part-below t,
-  read-part.Post,
-) (read-part-at t) read-part.Post
-read-part-shared-slice-read-shape-of t c = ?
+  returns : lts.Need-returns claims (before t) reads.Post
+  returns c = let a = c .before .before .args in sym (part-end (a .codes .now) (a .at) (a .n) (c .if1 .taken))
 
--- src/lib.rt:60:9
-read-part-shape-of-requires : (t : ℕ) → read-part-lts.Need-shape-of-requires (
-  shape-of-reads.Asked,
-  shape-of-reads.Learnt,
-  read-part-below t,
-  read-part.Post,
-) (read-part-at t) read-part.Post
-read-part-shape-of-requires t c κs = ?
+  shared-slice-read-shape-of : lts.Need-shared-slice-read-shape-of claims (before t) reads.Post
+  shared-slice-read-shape-of c = c .before .if1 .left
 
--- src/lib.rt:62:43
-read-part-enum-told : (t : ℕ) → read-part-lts.Need-enum-told (
-  shape-of-reads.Asked,
-  shape-of-reads.Learnt,
-  read-part-below t,
-  read-part.Post,
-) (read-part-at t) read-part.Post
-read-part-enum-told t c = ?
+  shape-of-requires : lts.Need-shape-of-requires claims (before t) reads.Post
+  shape-of-requires c κs = search needs
 
--- src/lib.rt:62:43
-read-part-add-t16 : (t : ℕ) → read-part-lts.Need-add-t16 (
-  shape-of-reads.Asked,
-  shape-of-reads.Learnt,
-  read-part-below t,
-  read-part.Post,
-) (read-part-at t) read-part.Post
-read-part-add-t16 t c = ?
+  enum-told : lts.Need-enum-told claims (before t) reads.Post
+  enum-told c = search needs
 
--- src/lib.rt:64:41
-read-part-enum-told-2 : (t : ℕ) → read-part-lts.Need-enum-told-2 (
-  shape-of-reads.Asked,
-  shape-of-reads.Learnt,
-  read-part-below t,
-  read-part.Post,
-) (read-part-at t) read-part.Post
-read-part-enum-told-2 t c = ?
+  add-t16 : lts.Need-add-t16 claims (before t) reads.Post
+  add-t16 c = search needs
 
--- src/lib.rt:64:41
-read-part-add-read-part : (t : ℕ) → read-part-lts.Need-add-read-part (
-  shape-of-reads.Asked,
-  shape-of-reads.Learnt,
-  read-part-below t,
-  read-part.Post,
-) (read-part-at t) read-part.Post
-read-part-add-read-part t c = ?
+  enum-told-2 : lts.Need-enum-told-2 claims (before t) reads.Post
+  enum-told-2 c = search needs
 
--- src/lib.rt:64:17
-read-part-read-part-requires : (t : ℕ) → read-part-lts.Need-read-part-requires (
-  shape-of-reads.Asked,
-  shape-of-reads.Learnt,
-  read-part-below t,
-  read-part.Post,
-) (read-part-at t) read-part.Post
-read-part-read-part-requires t c κs = ?
+  add-read-part : lts.Need-add-read-part claims (before t) reads.Post
+  add-read-part c = search needs
 
--- src/lib.rt:65:35
-read-part-enum-known-part : (t : ℕ) → read-part-lts.Need-enum-known-part (
-  shape-of-reads.Asked,
-  shape-of-reads.Learnt,
-  read-part-below t,
-  read-part.Post,
-) (read-part-at t) read-part.Post
-read-part-enum-known-part t c = ?
+  read-part-requires : lts.Need-read-part-requires claims (before t) reads.Post
+  read-part-requires c κs = search needs
 
--- src/lib.rt:66:17
-read-part-enum-told-3 : (t : ℕ) → read-part-lts.Need-enum-told-3 (
-  shape-of-reads.Asked,
-  shape-of-reads.Learnt,
-  read-part-below t,
-  read-part.Post,
-) (read-part-at t) read-part.Post
-read-part-enum-told-3 t c = ?
+  enum-known-part : lts.Need-enum-known-part claims (before t) reads.Post
+  enum-known-part c = search needs
 
--- src/lib.rt:66:17
-read-part-returns-2 : (t : ℕ) → read-part-lts.Need-returns-2 (
-  shape-of-reads.Asked,
-  shape-of-reads.Learnt,
-  read-part-below t,
-  read-part.Post,
-) (read-part-at t) read-part.Post
-read-part-returns-2 t c = ?
+  enum-told-3 : lts.Need-enum-told-3 claims (before t) reads.Post
+  enum-told-3 c = search needs
 
--- src/lib.rt:71:42
-read-part-enum-told-4 : (t : ℕ) → read-part-lts.Need-enum-told-4 (
-  shape-of-reads.Asked,
-  shape-of-reads.Learnt,
-  read-part-below t,
-  read-part.Post,
-) (read-part-at t) read-part.Post
-read-part-enum-told-4 t c = ?
+  -- one part: its reading is the whole's
+  one-part : (k : lts.After-read-part claims (before t) reads.Post) →
+      let a = k .before .before .before .before .before .before .before .args in
+      k .read-part .result ≡ partAt (a .codes .now) (a .at) (a .n)
+  one-part k =
+      let c = k .before .before .before in
+      let a = c .before .before .before .before .args in
+      k .read-part .ensures ∙ sym (part-one (a .codes .now) (a .at) (a .n) (c .before .before .if1 .left) (sym (c .shape-of .ensures) ∙ k .before .enum-told2 .given .1))
 
--- src/lib.rt:71:42
-read-part-add-read-part-2 : (t : ℕ) → read-part-lts.Need-add-read-part-2 (
-  shape-of-reads.Asked,
-  shape-of-reads.Learnt,
-  read-part-below t,
-  read-part.Post,
-) (read-part-at t) read-part.Post
-read-part-add-read-part-2 t c = ?
+  returns-2 : lts.Need-returns-2 claims (before t) reads.Post
+  returns-2 c = one-part (c .before .before)
 
--- src/lib.rt:71:17
-read-part-read-part-requires-2 : (t : ℕ) → read-part-lts.Need-read-part-requires-2 (
-  shape-of-reads.Asked,
-  shape-of-reads.Learnt,
-  read-part-below t,
-  read-part.Post,
-) (read-part-at t) read-part.Post
-read-part-read-part-requires-2 t c κs = ?
+  enum-told-4 : lts.Need-enum-told-4 claims (before t) reads.Post
+  enum-told-4 c = search needs
 
--- src/lib.rt:72:35
-read-part-enum-known-first : (t : ℕ) → read-part-lts.Need-enum-known-first (
-  shape-of-reads.Asked,
-  shape-of-reads.Learnt,
-  read-part-below t,
-  read-part.Post,
-) (read-part-at t) read-part.Post
-read-part-enum-known-first t c = ?
+  add-read-part-2 : lts.Need-add-read-part-2 claims (before t) reads.Post
+  add-read-part-2 c = search needs
 
--- src/lib.rt:73:17
-read-part-enum-told-5 : (t : ℕ) → read-part-lts.Need-enum-told-5 (
-  shape-of-reads.Asked,
-  shape-of-reads.Learnt,
-  read-part-below t,
-  read-part.Post,
-) (read-part-at t) read-part.Post
-read-part-enum-told-5 t c = ?
+  read-part-requires-2 : lts.Need-read-part-requires-2 claims (before t) reads.Post
+  read-part-requires-2 c κs = search needs
 
--- src/lib.rt:73:17
-read-part-returns-3 : (t : ℕ) → read-part-lts.Need-returns-3 (
-  shape-of-reads.Asked,
-  shape-of-reads.Learnt,
-  read-part-below t,
-  read-part.Post,
-) (read-part-at t) read-part.Post
-read-part-returns-3 t c = ?
+  enum-known-first : lts.Need-enum-known-first claims (before t) reads.Post
+  enum-known-first c = search needs
 
--- src/lib.rt:75:17
-read-part-read-part-requires-3 : (t : ℕ) → read-part-lts.Need-read-part-requires-3 (
-  shape-of-reads.Asked,
-  shape-of-reads.Learnt,
-  read-part-below t,
-  read-part.Post,
-) (read-part-at t) read-part.Post
-read-part-read-part-requires-3 t c κs = ?
+  enum-told-5 : lts.Need-enum-told-5 claims (before t) reads.Post
+  enum-told-5 c = search needs
 
--- src/lib.rt:76:35
-read-part-enum-known-last : (t : ℕ) → read-part-lts.Need-enum-known-last (
-  shape-of-reads.Asked,
-  shape-of-reads.Learnt,
-  read-part-below t,
-  read-part.Post,
-) (read-part-at t) read-part.Post
-read-part-enum-known-last t c = ?
+  returns-3 : lts.Need-returns-3 claims (before t) reads.Post
+  returns-3 c =
+      let p = c .before .before in
+      let k = p .before .before .before in
+      let a = k .before .before .before .before .args in
+      let g = c .enum-told5 .given in
+      g .1 ∙ sym (part-two-stop (a .codes .now) (a .at) (a .n) (k .before .before .if1 .left) (sym (k .shape-of .ensures) ∙ p .before .enum-told4 .given .1) (g .0 .0) (sym (p .read-part2 .ensures) ∙ g .1))
 
--- src/lib.rt:77:17
-read-part-enum-told-6 : (t : ℕ) → read-part-lts.Need-enum-told-6 (
-  shape-of-reads.Asked,
-  shape-of-reads.Learnt,
-  read-part-below t,
-  read-part.Post,
-) (read-part-at t) read-part.Post
-read-part-enum-told-6 t c = ?
+  read-part-requires-3 : lts.Need-read-part-requires-3 claims (before t) reads.Post
+  read-part-requires-3 c κs =
+      let p = c .before .before .before in
+      let k = p .before .before .before .before .before in
+      let a = k .before .before .args in
+      let i : a .at < length (a .codes .now) = k .if1 .left in
+      let g = c .before .first .given in
+      (omega (arith, part-ahead (a .codes .now) (a .at + 1) (a .n) (g .0 .0) (sym (p .read-part2 .ensures) ∙ g .1), k .before .before .pre .0), tt)
 
--- src/lib.rt:77:17
-read-part-returns-4 : (t : ℕ) → read-part-lts.Need-returns-4 (
-  shape-of-reads.Asked,
-  shape-of-reads.Learnt,
-  read-part-below t,
-  read-part.Post,
-) (read-part-at t) read-part.Post
-read-part-returns-4 t c = ?
+  enum-known-last : lts.Need-enum-known-last claims (before t) reads.Post
+  enum-known-last c = search needs
 
--- src/lib.rt:81:26
-read-part-enum-told-7 : (t : ℕ) → read-part-lts.Need-enum-told-7 (
-  shape-of-reads.Asked,
-  shape-of-reads.Learnt,
-  read-part-below t,
-  read-part.Post,
-) (read-part-at t) read-part.Post
-read-part-enum-told-7 t c = ?
+  enum-told-6 : lts.Need-enum-told-6 claims (before t) reads.Post
+  enum-told-6 c = search needs
 
--- src/lib.rt:54:1
-read-part-returns-5 : (t : ℕ) → read-part-lts.Need-returns-5 (
-  shape-of-reads.Asked,
-  shape-of-reads.Learnt,
-  read-part-below t,
-  read-part.Post,
-) (read-part-at t) read-part.Post
-read-part-returns-5 t c = ?
+  -- two parts: the second's reading is the whole's
+  two-parts : (k : lts.After-read-part3 claims (before t) reads.Post) →
+      let a = k .before .before .before .before .before .before .before .before .before .before .before .args in
+      k .read-part3 .result ≡ partAt (a .codes .now) (a .at) (a .n)
+  two-parts k =
+      let p = k .before .before .before .before in
+      let c = p .before .before .before in
+      let a = c .before .before .before .before .args in
+      let g = k .before .before .first .given in
+      k .read-part3 .ensures ∙ sym (part-two (a .codes .now) (a .at) (a .n) (c .before .before .if1 .left) (sym (c .shape-of .ensures) ∙ p .before .enum-told4 .given .1) (g .0 .0) (sym (p .read-part2 .ensures) ∙ g .1))
 
--- src/lib.rt:54:1
-read-part-returns-6 : (t : ℕ) → read-part-lts.Need-returns-6 (
-  shape-of-reads.Asked,
-  shape-of-reads.Learnt,
-  read-part-below t,
-  read-part.Post,
-) (read-part-at t) read-part.Post
-read-part-returns-6 t c = ?
+  returns-4 : lts.Need-returns-4 claims (before t) reads.Post
+  returns-4 c = two-parts (c .before .before)
 
--- src/lib.rt:54:1
-read-part-returns-7 : (t : ℕ) → read-part-lts.Need-returns-7 (
-  shape-of-reads.Asked,
-  shape-of-reads.Learnt,
-  read-part-below t,
-  read-part.Post,
-) (read-part-at t) read-part.Post
-read-part-returns-7 t c = ?
+  enum-told-7 : lts.Need-enum-told-7 claims (before t) reads.Post
+  enum-told-7 c = search needs
 
--- src/lib.rt:54:1
-read-part-returns-8 : (t : ℕ) → read-part-lts.Need-returns-8 (
-  shape-of-reads.Asked,
-  shape-of-reads.Learnt,
-  read-part-below t,
-  read-part.Post,
-) (read-part-at t) read-part.Post
-read-part-returns-8 t c = ?
+  returns-5 : lts.Need-returns-5 claims (before t) reads.Post
+  returns-5 c =
+      let k = c .before .before in
+      let a = k .before .before .before .before .args in
+      sym (part-whole (a .codes .now) (a .at) (a .n) (k .before .before .if1 .left) (sym (k .shape-of .ensures) ∙ c .enum-told .given .1))
+
+  returns-6 : lts.Need-returns-6 claims (before t) reads.Post
+  returns-6 c = sym (c .before .part .given .1) ∙ one-part (c .before .before .before)
+
+  returns-7 : lts.Need-returns-7 claims (before t) reads.Post
+  returns-7 c = sym (c .before .last .given .1) ∙ two-parts (c .before .before .before)
+
+  returns-8 : lts.Need-returns-8 claims (before t) reads.Post
+  returns-8 c =
+      let k = c .before .before in
+      let a = k .before .before .before .before .args in
+      sym (part-none (a .codes .now) (a .at) (a .n) (k .before .before .if1 .left) (sym (k .shape-of .ensures) ∙ c .enum-told7 .given .1))
 
 pub +read-part-spec : {M : Type 1} → statement M
-+read-part-spec = close μ-read-part λ t. read-part-lts.spec (
-  shape-of-reads.Asked,
-  shape-of-reads.Learnt,
-  read-part-below t,
-  read-part.Post,
-)
-    (read-part-at t)
-    read-part.Post
-    (read-part-returns t)
-    (read-part-shared-slice-read-shape-of t)
-    (read-part-shape-of-requires t)
-    (read-part-enum-told t)
-    (read-part-add-t16 t)
-    (read-part-enum-told-2 t)
-    (read-part-add-read-part t)
-    (read-part-read-part-requires t)
-    (read-part-enum-known-part t)
-    (read-part-enum-told-3 t)
-    (read-part-returns-2 t)
-    (read-part-enum-told-4 t)
-    (read-part-add-read-part-2 t)
-    (read-part-read-part-requires-2 t)
-    (read-part-enum-known-first t)
-    (read-part-enum-told-5 t)
-    (read-part-returns-3 t)
-    (read-part-read-part-requires-3 t)
-    (read-part-enum-known-last t)
-    (read-part-enum-told-6 t)
-    (read-part-returns-4 t)
-    (read-part-enum-told-7 t)
-    (read-part-returns-5 t)
-    (read-part-returns-6 t)
-    (read-part-returns-7 t)
-    (read-part-returns-8 t)
++read-part-spec = close μ λ t. lts.spec (claims t) (before t) reads.Post
+    (returns t)
+    (shared-slice-read-shape-of t)
+    (shape-of-requires t)
+    (enum-told t)
+    (add-t16 t)
+    (enum-told-2 t)
+    (add-read-part t)
+    (read-part-requires t)
+    (enum-known-part t)
+    (enum-told-3 t)
+    (returns-2 t)
+    (enum-told-4 t)
+    (add-read-part-2 t)
+    (read-part-requires-2 t)
+    (enum-known-first t)
+    (enum-told-5 t)
+    (returns-3 t)
+    (read-part-requires-3 t)
+    (enum-known-last t)
+    (enum-told-6 t)
+    (returns-4 t)
+    (enum-told-7 t)
+    (returns-5 t)
+    (returns-6 t)
+    (returns-7 t)
+    (returns-8 t)

@@ -1,10 +1,9 @@
 -- Laws of the blocks' checks, taken one block after another. Assumes nothing.
-use Prim.Native.Nat.{ℕ, suc, _+_, _*_, _/_, _≤_, _<_}
+use Prim.Native.Nat.{ℕ, _+_, _*_, _/_, _≤_, _<_}
 use native.Mathlib.Numerals.{add-one}
-use native.Mathlib.Omega.{arith}
-use mathlib.Core.Path.{_≡_, refl, sym, ap, _∙_}
-use mathlib.Core.Bool.{Bool, true, false, _&&_}
-use mathlib.Core.List.{List, [], _∷_}
+use mathlib.Core.Path.{_≡_, ap}
+use mathlib.Core.Bool.{Bool, true, _&&_}
+use mathlib.Core.List.{List, []}
 use lib.ListN.{length, drop, drop-of-length-le}
 use lib.Seq.{drop-cons}
 use Rattle.model.specs.Bytes.{field, pieces}

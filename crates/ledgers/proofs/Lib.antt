@@ -2,3 +2,4 @@ pub mod Sums
 pub mod Parts
 pub mod Checks
 pub mod Shapes
+pub mod Readers

@@ -1,26 +1,29 @@
 -- Laws of reading grants and ledgers, as the readers' answers: one term, one grant and one test after another. Assumes nothing.
-use Prim.Native.Nat.{ℕ, zero, suc, _+_, _-_, _*_, _/_, _≤_, _<_}
-use native.Mathlib.Numerals.{add-one}
+use Prim.Native.Nat.{ℕ, suc, _+_, _-_, _*_, _/_, _≤_, _<_}
 use native.Mathlib.Omega.{arith}
 use mathlib.Core.Path.{_≡_, refl, sym, ap, _∙_}
 use mathlib.Core.List.{List, [], _∷_}
-use lib.ListN.{length, drop, getD, drop-of-length-le}
+use lib.ListN.{length, take, drop, drop-of-length-le}
 use lib.Seq.{drop-cons}
 use Rattle.model.specs.Bytes.{field, Reading, accepted, refused, andThen}
 use Rattle.model.specs.Terms.{Term, readTerm}
 use Rattle.model.specs.Grants.{Grant}
-use Rattle.model.specs.Ledgers.{grantBlocks, pBytes, qBytes, labelBytes, refusedAs, readTerms, readGrant, readGrants, Ledger}
-use Rattle.model.specs.Derivations.{grantBlock}
+use Rattle.model.specs.Ledgers.{grantBlocks, pBytes, qBytes, labelBytes, refusedAs, readTerms, readGrant, readGrants}
 use Rattle.model.proofs.Blocks.{length-grantBlocks, getD-grantBlocks}
 use Rattle.model.proofs.AcceptedLedgers.{grants-length}
 use Rattle.terms.specs.Readings.{termReading}
 use Rattle.terms.specs.declared.TermReading.{TermReading}
 use Rattle.terms.specs.declared.TermReading.the-variants.{Accepted as AcceptedTerm, Refused as RefusedTerm}
+use Rattle.ledgers.proofs.Parts.{slice-field}
 use Rattle.ledgers.specs.Readings.{grantReading, ledgerReading}
 use Rattle.ledgers.specs.declared.GrantReading.{GrantReading}
 use Rattle.ledgers.specs.declared.GrantReading.the-variants.{Accepted, Refused}
 use Rattle.ledgers.specs.declared.LedgerReading.{LedgerReading}
 use Rattle.ledgers.specs.declared.LedgerReading.the-variants.{Accepted as AcceptedLedger, Refused as RefusedLedger}
+
+-- what was read of the part that was lent is the answer for the field
+pub field-answer : (n at len : ℕ) (block : List ℕ) (r s : TermReading) → r ≡ termReading (readTerm n (take (at + len - at) (drop at block))) → r ≡ s → termReading (readTerm n (field at len block)) ≡ s
+field-answer n at len block r s e f = rw (slice-field at len block) at (sym e) ∙ f
 
 -- what follows an accepted term; a refused one is refusal 14
 abbrev pub onTerm : TermReading → GrantReading → GrantReading
@@ -34,7 +37,7 @@ unfolding readTerms
 terms-answer n block = three (readTerm n (pBytes block)) (readTerm n (qBytes block)) (readTerm n (labelBytes block))
   where
     three : (p q d : Reading Term)
-        → grantReading (refusedAs 14 (andThen p (λ a. andThen q (λ b. andThen d (λ c. accepted (record { p = a; q = b; label = c }))))))
+        → grantReading {A = Grant} (refusedAs 14 (andThen p (λ a. andThen q (λ b. andThen d (λ c. accepted (record { p = a; q = b; label = c }))))))
         ≡ onTerm (termReading p) (onTerm (termReading q) (onTerm (termReading d) Accepted))
     three (accepted a) (accepted b) (accepted c) = refl
     three (accepted a) (accepted b) (refused r) = refl

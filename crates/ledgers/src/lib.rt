@@ -1,6 +1,5 @@
 // The ledger: its blocks' checks, the reader with its refusals, and the parts where the grants' terms stand.
 use terms::TermReading;
-
 ghost use mathlib.Core.Path.{_≡_};
 ghost use mathlib.Core.Bool.{_&&_};
 ghost use Prim.Native.Nat.{_+_, _*_, _≤_, _<_};
@@ -52,8 +51,7 @@ fn all_checks(ledger: &[u8]) -> bool
     let mut k: usize = 0;
     while k < blocks {
         let at = 512 * k;
-        let end = at + 512;
-        let holds = block_check(&ledger[at..end]);
+        let holds = block_check(&ledger[at..at + 512]);
         if !holds {
             return false;
         }
@@ -108,9 +106,7 @@ fn term_form(block: &[u8], k: usize, at: usize, size: usize) -> bool
     if 64 < len {
         return false;
     }
-    let start = at + len;
-    let end = at + size;
-    filler(&block[start..end])
+    filler(&block[at + len..at + size])
 }
 
 // A grant's block: kind, lengths and filler.
@@ -261,8 +257,7 @@ fn part(bytes: &[u8], at: usize, len: usize) -> &[u8]
     if bytes.len() - at <= len {
         return &bytes[at..];
     }
-    let end = at + len;
-    &bytes[at..end]
+    &bytes[at..at + len]
 }
 
 // The block of grant k, a part of the ledger; an empty part where there is none.

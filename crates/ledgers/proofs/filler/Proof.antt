@@ -10,8 +10,6 @@ use Rattle.model.specs.Bytes.{zeros}
 use Rattle.ledgers.proofs.Sums.{filler-more, filler-end}
 use Rattle.ledgers.proofs.filler.Statement.{statement}
 use Rattle.ledgers.proofs.filler.Tie as tie
-use Rattle.ledgers.proofs.filler.Reads as reads
-use Rattle.ledgers.proofs.filler.Lts as lts
 
 abbrev Inv-loop : tie.InvT-loop
 Inv-loop part any₀ i₀ any i = (i ≤ length part) × ((eqb any 0 && zeros (drop i part)) ≡ zeros part)
@@ -19,29 +17,23 @@ Inv-loop part any₀ i₀ any i = (i ≤ length part) × ((eqb any 0 && zeros (d
 abbrev μ-loop : tie.MeasureT-loop
 μ-loop part any₀ i₀ any i = length part - i
 
--- src/lib.rt:68:5
 loop-holds : tie.Need-loop-holds Inv-loop μ-loop
 loop-holds c = (omega arith, refl)
 
--- src/lib.rt:69:16
 shared-slice-read-any : tie.Need-shared-slice-read-any Inv-loop μ-loop
 shared-slice-read-any c = omega arith
 
--- src/lib.rt:70:9
 add-i : tie.Need-add-i Inv-loop μ-loop
 add-i c = omega arith
 
--- src/lib.rt:68:5
 loop-less : tie.Need-loop-less Inv-loop μ-loop
 loop-less c = omega arith
 
--- src/lib.rt:68:5
 loop-again : tie.Need-loop-again Inv-loop μ-loop
 loop-again c =
     let l = c .before .before .loop in
     (omega arith, filler-more (c .before .before .before .args .part .now) (l .i) (l .any) (zeros (c .before .before .before .args .part .now)) (omega arith) (l .inv .1))
 
--- src/lib.rt:63:1
 returns : tie.Need-returns Inv-loop μ-loop
 returns c =
     let l = c .before .loop in

@@ -6,32 +6,23 @@ use Rattle.ledgers.proofs.Parts.{field-past}
 use borrow.Author.Needs.{needs}
 use Rattle.ledgers.proofs.grant_block.Statement.{statement}
 use Rattle.ledgers.proofs.grant_block.Tie as tie
-use Rattle.ledgers.proofs.grant_block.Reads as reads
-use Rattle.ledgers.proofs.grant_block.Lts as lts
-use Rattle.ledgers.proofs.part.Reads as part-reads
 
--- src/lib.rt:155:9
 slice-aggregate-result : tie.Need-slice-aggregate-result
 slice-aggregate-result c = search needs
 
--- src/lib.rt:155:9
 returns : tie.Need-returns
 returns c = let a = c .before .before .before .args in
     sym (field-past (512 * (a .k + 1)) 512 (a .ledger .now) (omega arith))
 
--- src/lib.rt:157:25
 add-part : tie.Need-add-part
 add-part c = search needs
 
--- src/lib.rt:157:18
 mul-part : tie.Need-mul-part
 mul-part c = search needs
 
--- src/lib.rt:157:5
 part-requires : tie.Need-part-requires
 part-requires c κs = search needs
 
--- src/lib.rt:151:1
 returns-2 : tie.Need-returns-2
 returns-2 c = search needs
 

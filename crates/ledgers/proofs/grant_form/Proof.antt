@@ -6,60 +6,43 @@ use Rattle.ledgers.proofs.Shapes.{grant-fields}
 use borrow.Author.Needs.{needs}
 use Rattle.ledgers.proofs.grant_form.Statement.{statement}
 use Rattle.ledgers.proofs.grant_form.Tie as tie
-use Rattle.ledgers.proofs.grant_form.Reads as reads
-use Rattle.ledgers.proofs.grant_form.Lts as lts
-use Rattle.ledgers.proofs.filler.Reads as filler-reads
-use Rattle.ledgers.proofs.term_form.Reads as term-form-reads
 
--- src/lib.rt:118:8
 shared-slice-read-if1 : tie.Need-shared-slice-read-if1
 shared-slice-read-if1 c = search needs
 
--- src/lib.rt:119:9
 returns : tie.Need-returns
 returns c = simp (grant-fields, ne-eqb _ _ (c .if1 .taken))
 
--- src/lib.rt:121:25
 sub-filler : tie.Need-sub-filler
 sub-filler c = search needs
 
--- src/lib.rt:121:25
 part-filler-start : tie.Need-part-filler-start
 part-filler-start c = search needs
 
--- src/lib.rt:121:25
 part-filler-end : tie.Need-part-filler-end
 part-filler-end c = search needs
 
--- src/lib.rt:121:9
 filler-requires : tie.Need-filler-requires
 filler-requires c κs = search needs
 
--- src/lib.rt:123:9
 returns-2 : tie.Need-returns-2
 returns-2 c = simp (grant-fields, sym (c .before .filler .ensures) ∙ not-true (c .before .filler .result) (c .if2 .taken), and-false)
 
--- src/lib.rt:125:9
 term-form-requires : tie.Need-term-form-requires
 term-form-requires c κs = search needs
 
--- src/lib.rt:127:9
 returns-3 : tie.Need-returns-3
 returns-3 c = simp (grant-fields, sym (c .before .term-form .ensures) ∙ not-true (c .before .term-form .result) (c .if3 .taken), and-false)
 
--- src/lib.rt:129:9
 term-form-requires-2 : tie.Need-term-form-requires-2
 term-form-requires-2 c κs = search needs
 
--- src/lib.rt:131:9
 returns-4 : tie.Need-returns-4
 returns-4 c = simp (grant-fields, sym (c .before .term-form2 .ensures) ∙ not-true (c .before .term-form2 .result) (c .if4 .taken), and-false)
 
--- src/lib.rt:133:5
 term-form-requires-3 : tie.Need-term-form-requires-3
 term-form-requires-3 c κs = search needs
 
--- src/lib.rt:114:1
 returns-5 : tie.Need-returns-5
 returns-5 c =
     let q = c .before in

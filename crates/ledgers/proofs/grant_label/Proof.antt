@@ -4,20 +4,13 @@ use Rattle.model.specs.Ledgers.{labelBytes}
 use borrow.Author.Needs.{needs}
 use Rattle.ledgers.proofs.grant_label.Statement.{statement}
 use Rattle.ledgers.proofs.grant_label.Tie as tie
-use Rattle.ledgers.proofs.grant_label.Reads as reads
-use Rattle.ledgers.proofs.grant_label.Lts as lts
-use Rattle.ledgers.proofs.grant_block.Reads as grant-block-reads
-use Rattle.ledgers.proofs.term_part.Reads as term-part-reads
 
--- src/lib.rt:187:15
 grant-block-requires : tie.Need-grant-block-requires
 grant-block-requires c κs = search needs
 
--- src/lib.rt:187:5
 term-part-requires : tie.Need-term-part-requires
 term-part-requires c κs = search needs
 
--- src/lib.rt:184:1
 returns : tie.Need-returns
 returns c = c .term-part .ensures ∙ ap labelBytes (c .before .grant-block .ensures)
 

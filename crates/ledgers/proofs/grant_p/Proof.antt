@@ -4,20 +4,13 @@ use Rattle.model.specs.Ledgers.{pBytes}
 use borrow.Author.Needs.{needs}
 use Rattle.ledgers.proofs.grant_p.Statement.{statement}
 use Rattle.ledgers.proofs.grant_p.Tie as tie
-use Rattle.ledgers.proofs.grant_p.Reads as reads
-use Rattle.ledgers.proofs.grant_p.Lts as lts
-use Rattle.ledgers.proofs.grant_block.Reads as grant-block-reads
-use Rattle.ledgers.proofs.term_part.Reads as term-part-reads
 
--- src/lib.rt:175:15
 grant-block-requires : tie.Need-grant-block-requires
 grant-block-requires c κs = search needs
 
--- src/lib.rt:175:5
 term-part-requires : tie.Need-term-part-requires
 term-part-requires c κs = search needs
 
--- src/lib.rt:172:1
 returns : tie.Need-returns
 returns c = c .term-part .ensures ∙ ap pBytes (c .before .grant-block .ensures)
 

@@ -1,5 +1,4 @@
 -- `ledgers::header_form` meets its contract, by the tests and what the two calls ensure. Assumes nothing.
-use native.Mathlib.Omega.{arith}
 use mathlib.Core.Path.{sym, _∙_}
 use mathlib.Core.Bool.{and-false}
 use borrow.Author.Tests.{eq-eqb, ne-eqb, le-leb, lt-leb}
@@ -7,68 +6,50 @@ use Rattle.model.specs.Ledgers.{headerForm}
 use borrow.Author.Needs.{needs}
 use Rattle.ledgers.proofs.header_form.Statement.{statement}
 use Rattle.ledgers.proofs.header_form.Tie as tie
-use Rattle.ledgers.proofs.header_form.Reads as reads
-use Rattle.ledgers.proofs.header_form.Lts as lts
-use Rattle.ledgers.proofs.filler.Reads as filler-reads
-use Rattle.ledgers.proofs.two_bytes.Reads as two-bytes-reads
 
--- src/lib.rt:80:8
 shared-slice-read-if1 : tie.Need-shared-slice-read-if1
 shared-slice-read-if1 c = search needs
 
--- src/lib.rt:81:9
 returns : tie.Need-returns
 unfolding headerForm
 returns c = simp (ne-eqb _ _ (c .if1 .taken))
 
--- src/lib.rt:83:8
 shared-slice-read-if2 : tie.Need-shared-slice-read-if2
 shared-slice-read-if2 c = search needs
 
--- src/lib.rt:84:9
 returns-2 : tie.Need-returns-2
 unfolding headerForm
 returns-2 c = simp (lt-leb _ _ (c .if2 .taken), and-false)
 
--- src/lib.rt:86:13
 shared-slice-read-if3 : tie.Need-shared-slice-read-if3
 shared-slice-read-if3 c = search needs
 
--- src/lib.rt:87:9
 returns-3 : tie.Need-returns-3
 unfolding headerForm
 returns-3 c = simp (lt-leb _ _ (c .if3 .taken), and-false)
 
--- src/lib.rt:89:9
 two-bytes-requires : tie.Need-two-bytes-requires
 two-bytes-requires c κs = search needs
 
--- src/lib.rt:90:8
 cast-if4 : tie.Need-cast-if4
 cast-if4 c = search needs
 
--- src/lib.rt:91:9
 returns-4 : tie.Need-returns-4
 unfolding headerForm
 returns-4 c = simp (ne-eqb _ _ (λ e. c .if4 .taken (c .before .two-bytes .ensures ∙ e)), and-false)
 
--- src/lib.rt:93:12
 sub-filler : tie.Need-sub-filler
 sub-filler c = search needs
 
--- src/lib.rt:93:12
 part-filler-start : tie.Need-part-filler-start
 part-filler-start c = search needs
 
--- src/lib.rt:93:12
 part-filler-end : tie.Need-part-filler-end
 part-filler-end c = search needs
 
--- src/lib.rt:93:5
 filler-requires : tie.Need-filler-requires
 filler-requires c κs = search needs
 
--- src/lib.rt:76:1
 returns-5 : tie.Need-returns-5
 unfolding headerForm
 returns-5 c =

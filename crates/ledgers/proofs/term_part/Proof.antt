@@ -5,32 +5,23 @@ use Rattle.ledgers.proofs.Parts.{field-none}
 use borrow.Author.Needs.{needs}
 use Rattle.ledgers.proofs.term_part.Statement.{statement}
 use Rattle.ledgers.proofs.term_part.Tie as tie
-use Rattle.ledgers.proofs.term_part.Reads as reads
-use Rattle.ledgers.proofs.term_part.Lts as lts
-use Rattle.ledgers.proofs.part.Reads as part-reads
 
--- src/lib.rt:165:9
 slice-aggregate-result : tie.Need-slice-aggregate-result
 slice-aggregate-result c = search needs
 
--- src/lib.rt:165:9
 returns : tie.Need-returns
 returns c = let a = c .before .before .before .args in
     sym (field-none (a .at) 0 (a .block .now) (a .k) (c .before .if1 .taken))
 
--- src/lib.rt:167:15
 shared-slice-read-len : tie.Need-shared-slice-read-len
 shared-slice-read-len c = search needs
 
--- src/lib.rt:167:15
 cast-len : tie.Need-cast-len
 cast-len c = omega (arith, c .shared-slice-known2 .given (c .before .before .before .args .k))
 
--- src/lib.rt:168:5
 part-requires : tie.Need-part-requires
 part-requires c κs = search needs
 
--- src/lib.rt:161:1
 returns-2 : tie.Need-returns-2
 returns-2 c = search needs
 

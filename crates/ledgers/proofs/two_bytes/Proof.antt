@@ -4,38 +4,28 @@ use native.Mathlib.Omega.{arith}
 use borrow.Author.Needs.{needs}
 use Rattle.ledgers.proofs.two_bytes.Statement.{statement}
 use Rattle.ledgers.proofs.two_bytes.Tie as tie
-use Rattle.ledgers.proofs.two_bytes.Reads as reads
-use Rattle.ledgers.proofs.two_bytes.Lts as lts
 
--- src/lib.rt:30:5
 shared-slice-read-result : tie.Need-shared-slice-read-result
 shared-slice-read-result c = search needs
 
--- src/lib.rt:30:5
 cast-result : tie.Need-cast-result
 cast-result c = omega (arith, c .shared-slice-known .given (c .before .args .at))
 
--- src/lib.rt:30:5
 mul-result : tie.Need-mul-result
 mul-result c = omega (arith, c .shared-slice-known .given (c .before .args .at))
 
--- src/lib.rt:30:36
 add-result : tie.Need-add-result
 add-result c = search needs
 
--- src/lib.rt:30:30
 shared-slice-read-result-2 : tie.Need-shared-slice-read-result-2
 shared-slice-read-result-2 c = search needs
 
--- src/lib.rt:30:30
 cast-result-2 : tie.Need-cast-result-2
 cast-result-2 c = omega (arith, c .shared-slice-known2 .given (c .before .before .args .at + 1))
 
--- src/lib.rt:30:5
 add-result-2 : tie.Need-add-result-2
 add-result-2 c = omega (arith, c .before .shared-slice-known .given (c .before .before .args .at), c .shared-slice-known2 .given (c .before .before .args .at + 1))
 
--- src/lib.rt:26:1
 returns : tie.Need-returns
 returns c = search needs
 

@@ -6,13 +6,10 @@ use native.Mathlib.Omega.{arith}
 use mathlib.Core.Path.{_≡_}
 use lib.Dec.{lit≤}
 use lib.ListN.{take, drop, getD}
-use borrow.Author.Needs.{needs}
 use Rattle.model.specs.Ledgers.{weighted}
 use Rattle.ledgers.proofs.Sums.{weight-more, weight-end, product-most}
 use Rattle.ledgers.proofs.weight.Statement.{statement}
 use Rattle.ledgers.proofs.weight.Tie as tie
-use Rattle.ledgers.proofs.weight.Reads as reads
-use Rattle.ledgers.proofs.weight.Lts as lts
 
 abbrev Inv-loop : tie.InvT-loop
 Inv-loop block sum₀ i₀ sum i =
@@ -21,45 +18,35 @@ Inv-loop block sum₀ i₀ sum i =
 abbrev μ-loop : tie.MeasureT-loop
 μ-loop block sum₀ i₀ sum i = 510 - i
 
--- src/lib.rt:18:5
 loop-holds : tie.Need-loop-holds Inv-loop μ-loop
 loop-holds c = (lit≤ tt, lit≤ tt, zero-add (weighted 0 (take 510 (c .args .block .now))))
 
--- src/lib.rt:19:17
 add-sum : tie.Need-add-sum Inv-loop μ-loop
 add-sum c = omega arith
 
--- src/lib.rt:19:16
 cast-sum : tie.Need-cast-sum Inv-loop μ-loop
 cast-sum c = omega arith
 
--- src/lib.rt:19:33
 shared-slice-read-sum : tie.Need-shared-slice-read-sum Inv-loop μ-loop
 shared-slice-read-sum c = omega arith
 
--- src/lib.rt:19:33
 cast-sum-2 : tie.Need-cast-sum-2 Inv-loop μ-loop
 cast-sum-2 c = omega (arith, c .shared-slice-known .given (c .before .before .loop .i))
 
--- src/lib.rt:19:16
 mul-sum : tie.Need-mul-sum Inv-loop μ-loop
 mul-sum c = let i = c .before .before .loop .i in
     omega (arith, product-most i (getD (c .before .before .before .args .block .now) i 0) (omega arith) (omega (arith, c .shared-slice-known .given i)))
 
--- src/lib.rt:19:9
 add-sum-2 : tie.Need-add-sum-2 Inv-loop μ-loop
 add-sum-2 c = let i = c .before .before .loop .i in
     omega (arith, product-most i (getD (c .before .before .before .args .block .now) i 0) (omega arith) (omega (arith, c .shared-slice-known .given i)))
 
--- src/lib.rt:20:9
 add-i : tie.Need-add-i Inv-loop μ-loop
 add-i c = omega arith
 
--- src/lib.rt:18:5
 loop-less : tie.Need-loop-less Inv-loop μ-loop
 loop-less c = omega arith
 
--- src/lib.rt:18:5
 loop-again : tie.Need-loop-again Inv-loop μ-loop
 loop-again c =
     let block = c .before .before .before .args .block .now in
@@ -68,7 +55,6 @@ loop-again c =
     let most = product-most i (getD block i 0) (omega arith) (omega (arith, c .shared-slice-known .given i)) in
     (omega arith, omega arith, weight-more block (c .before .before .before .pre) i (c .before .before .loop .sum) (weighted 0 (take 510 block)) (omega arith) (inv .2))
 
--- src/lib.rt:12:1
 returns : tie.Need-returns Inv-loop μ-loop
 returns c =
     let block = c .before .before .args .block .now in

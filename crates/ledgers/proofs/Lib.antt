@@ -3,3 +3,4 @@ pub mod Parts
 pub mod Checks
 pub mod Shapes
 pub mod Readers
+pub mod Accepted

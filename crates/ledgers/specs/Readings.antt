@@ -23,3 +23,7 @@ grantRefusal (Refused r) = r
 abbrev pub ledgerReading : Reading Ledger → LedgerReading
 ledgerReading (accepted l) = AcceptedLedger (l .names) (length (l .grants))
 ledgerReading (refused r) = RefusedLedger r
+
+abbrev pub ledgerRefusal : LedgerReading → ℕ
+ledgerRefusal (AcceptedLedger n k) = 0
+ledgerRefusal (RefusedLedger r) = r

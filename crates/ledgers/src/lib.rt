@@ -8,7 +8,7 @@ ghost use Rattle.model.specs.Bytes.{byte, field, twoBytes, zeros};
 ghost use Rattle.model.specs.Ledgers.{weighted, checked, header, grantBlocks, allChecked, headerForm, grantForm, pBytes, qBytes, labelBytes, refusedAs, readTerms, readGrant, readGrants, ledgerLength, readLedger};
 ghost use Rattle.model.specs.Derivations.{grantBlock};
 ghost use Rattle.ledgers.specs.Forms.{termForm};
-ghost use Rattle.ledgers.specs.Readings.{grantReading, grantRefusal, ledgerReading};
+ghost use Rattle.ledgers.specs.Readings.{grantReading, grantRefusal, ledgerReading, ledgerRefusal};
 
 // The sum of (i + 1) × byte i over the 510 bytes before a block's check.
 fn weight(block: &[u8]) -> u32
@@ -244,6 +244,16 @@ pub fn read_ledger(ledger: &[u8]) -> LedgerReading
     LedgerReading::Accepted {
         names: n,
         grants: count,
+    }
+}
+
+// The number of the refusal of a ledger, 0 where there is none.
+pub fn ledger_refusal(reading: LedgerReading) -> u8
+    ensures { λ k. ⌜ k ≡ ledgerRefusal reading ⌝ }
+{
+    match reading {
+        LedgerReading::Accepted { names: _, grants: _ } => 0,
+        LedgerReading::Refused(k) => k,
     }
 }
 

@@ -29,25 +29,25 @@ require-accepted true r next a e = (refl, e)
 require-accepted false r next a e = never r a e
 
 -- what was accepted in two readings was accepted in each
-pub record Accepted-then {A B : Type 0} (first : Reading A) (next : A → Reading B) (b : B) : Type 0 where
+pub record AcceptedThen {A B : Type 0} (first : Reading A) (next : A → Reading B) (b : B) : Type 0 where
   pub value : A
   pub first-accepts : first ≡ accepted value
   pub next-accepts : next value ≡ accepted b
 
-pub then-accepted : {A B : Type 0} (first : Reading A) (next : A → Reading B) (b : B) → andThen first next ≡ accepted b → Accepted-then first next b
+pub then-accepted : {A B : Type 0} (first : Reading A) (next : A → Reading B) (b : B) → andThen first next ≡ accepted b → AcceptedThen first next b
 then-accepted (accepted a) next b e = record { value = a; first-accepts = refl; next-accepts = e }
 then-accepted (refused r) next b e = never r b e
 
 -- of a list of grants that was read, grant k was read off block k
-pub record Read-grants (n : ℕ) (bs : List (List ℕ)) (gs : List Grant) : Type 0 where
+pub record ReadGrants (n : ℕ) (bs : List (List ℕ)) (gs : List Grant) : Type 0 where
   pub count : length gs ≡ length bs
   pub each : (k : ℕ) (b : List ℕ) (g : Grant) → k < length bs → readGrant n (getD bs k b) ≡ accepted (getD gs k g)
 
-read-none : (n : ℕ) (gs : List Grant) → accepted [] ≡ accepted gs → Read-grants n [] gs
+read-none : (n : ℕ) (gs : List Grant) → accepted [] ≡ accepted gs → ReadGrants n [] gs
 read-none n [] e = record { count = refl; each = λ k b g h. absurd (omega arith) }
 read-none n (g ∷ gs) e = let z : _≡_ {A = ℕ} 0 1 = cc in absurd (omega arith)
 
-read-more : (n : ℕ) (b : List ℕ) (bs : List (List ℕ)) (g : Grant) (gs all : List Grant) → readGrant n b ≡ accepted g → Read-grants n bs gs → accepted (g ∷ gs) ≡ accepted all → Read-grants n (b ∷ bs) all
+read-more : (n : ℕ) (b : List ℕ) (bs : List (List ℕ)) (g : Grant) (gs all : List Grant) → readGrant n b ≡ accepted g → ReadGrants n bs gs → accepted (g ∷ gs) ≡ accepted all → ReadGrants n (b ∷ bs) all
 read-more n b bs g gs [] first rest e = let z : _≡_ {A = ℕ} 0 1 = cc in absurd (omega arith)
 read-more n b bs g gs (a ∷ rs) first rest e = record {
   count = ap suc (ap length same ∙ rest .count);
@@ -61,7 +61,7 @@ read-more n b bs g gs (a ∷ rs) first rest e = record {
     at zero c d h = cc
     at (suc k) c d h = rw same (rest .each k c d (omega arith))
 
-pub read-grants : (n : ℕ) (bs : List (List ℕ)) (gs : List Grant) → readGrants n bs ≡ accepted gs → Read-grants n bs gs
+pub read-grants : (n : ℕ) (bs : List (List ℕ)) (gs : List Grant) → readGrants n bs ≡ accepted gs → ReadGrants n bs gs
 unfolding readGrants
 read-grants n [] gs e = read-none n gs e
 read-grants n (b ∷ bs) gs e =
@@ -73,28 +73,28 @@ pub grants-length : (n : ℕ) (bs : List (List ℕ)) (gs : List Grant) → readG
 grants-length n bs gs e = read-grants n bs gs e .count
 
 -- A term that was read: the bytes are its codes, at most 64, and each of its names is below n.
-pub record Term-stands (n : ℕ) (bytes : List ℕ) (t : Term) : Type 0 where
-  pub is-codes : bytes ≡ codes t
+pub record TermStands (n : ℕ) (bytes : List ℕ) (t : Term) : Type 0 where
+  pub written : bytes ≡ codes t
   pub below : NamesBelow n t
-  pub most : length bytes ≤ 64
+  pub short : length bytes ≤ 64
 
-pub term-stands : (n : ℕ) (bytes : List ℕ) (t : Term) → readTerm n bytes ≡ accepted t → Term-stands n bytes t
+pub term-stands : (n : ℕ) (bytes : List ℕ) (t : Term) → readTerm n bytes ≡ accepted t → TermStands n bytes t
 term-stands n bytes t e =
     let h = accepted-codes n bytes t .0 e in
-    record { is-codes = h .0; below = h .1; most = h .2 }
+    record { written = h .0; below = h .1; short = h .2 }
 
 -- A grant that was read: its terms stand in its block.
-pub record Grant-stands (n : ℕ) (block : List ℕ) (g : Grant) : Type 0 where
+pub record GrantStands (n : ℕ) (block : List ℕ) (g : Grant) : Type 0 where
   pub form : grantForm block ≡ true
-  pub p : Term-stands n (pBytes block) (g .p)
-  pub q : Term-stands n (qBytes block) (g .q)
-  pub label : Term-stands n (labelBytes block) (g .label)
+  pub p : TermStands n (pBytes block) (g .p)
+  pub q : TermStands n (qBytes block) (g .q)
+  pub label : TermStands n (labelBytes block) (g .label)
 
 as-accepted : {A : Type 0} (r : ℕ) (x : Reading A) (a : A) → refusedAs r x ≡ accepted a → x ≡ accepted a
 as-accepted r (accepted b) a e = e
 as-accepted r (refused k) a e = never r a e
 
-pub grant-stands : (n : ℕ) (block : List ℕ) (g : Grant) → readGrant n block ≡ accepted g → Grant-stands n block g
+pub grant-stands : (n : ℕ) (block : List ℕ) (g : Grant) → readGrant n block ≡ accepted g → GrantStands n block g
 unfolding readGrant readTerms
 grant-stands n block g e =
     let form = require-accepted (grantForm block) 13 _ g e in
@@ -103,7 +103,7 @@ grant-stands n block g e =
     let d = then-accepted (readTerm n (labelBytes block)) _ g (q .next-accepts) in
     let read : Grant = record { p = p .value; q = q .value; label = d .value } in
     let same : read ≡ g = cc (d .next-accepts) in
-    let stands : Grant-stands n block read = record {
+    let stands : GrantStands n block read = record {
       form = form .0;
       p = term-stands n (pBytes block) (p .value) (p .first-accepts);
       q = term-stands n (qBytes block) (q .value) (q .first-accepts);
@@ -112,14 +112,14 @@ grant-stands n block g e =
     rw same at stands
 
 -- what the form of block 0 says
-pub record Header-stands (count : ℕ) (block : List ℕ) : Type 0 where
+pub record HeaderStands (count : ℕ) (block : List ℕ) : Type 0 where
   pub kind : byte 0 block ≡ 1
   pub names-least : 1 ≤ byte 1 block
   pub names-most : byte 1 block ≤ 12
   pub said : twoBytes 2 block ≡ count
   pub filler : zeros (field 4 506 block) ≡ true
 
-pub header-stands : (count : ℕ) (block : List ℕ) → headerForm count block ≡ true → Header-stands count block
+pub header-stands : (count : ℕ) (block : List ℕ) → headerForm count block ≡ true → HeaderStands count block
 unfolding headerForm
 header-stands count block e =
     let kind = both-true (eqb (byte 0 block) 1) _ e in
@@ -145,7 +145,7 @@ ledger-blocks k e =
     (omega arith, omega arith)
 
 -- An accepted ledger: as many blocks as it says, and in each a grant whose terms stand there.
-pub record Ledger-stands (bytes : List ℕ) (l : Ledger) : Type 0 where
+pub record LedgerStands (bytes : List ℕ) (l : Ledger) : Type 0 where
   -- byte 1 is n, 1 to 12
   pub names : byte 1 bytes ≡ l .names
   pub names-least : 1 ≤ l .names
@@ -154,9 +154,9 @@ pub record Ledger-stands (bytes : List ℕ) (l : Ledger) : Type 0 where
   pub count-most : length (l .grants) ≤ 64
   pub size : length bytes ≡ 512 * (1 + length (l .grants))
   -- grant k was read off the block that starts at byte 512 * (k + 1); the grant `other` is what stands past the last
-  pub grant : (k : ℕ) (other : Grant) → k < length (l .grants) → Grant-stands (l .names) (grantBlock bytes k) (getD (l .grants) k other)
+  pub grant : (k : ℕ) (other : Grant) → k < length (l .grants) → GrantStands (l .names) (grantBlock bytes k) (getD (l .grants) k other)
 
-pub ledger-stands : (bytes : List ℕ) (l : Ledger) → readLedger bytes ≡ accepted l → Ledger-stands bytes l
+pub ledger-stands : (bytes : List ℕ) (l : Ledger) → readLedger bytes ≡ accepted l → LedgerStands bytes l
 unfolding readLedger
 ledger-stands bytes l e =
     let long = require-accepted (ledgerLength (length bytes)) 10 _ l e in
@@ -170,7 +170,7 @@ ledger-stands bytes l e =
     let block = header-stands (length (grantBlocks bytes)) (header bytes) (form .0) in
     let grants = read-grants (byte 1 bytes) (grantBlocks bytes) (read .value) (read .first-accepts) in
     let count : length (read .value) ≡ length bytes / 512 - 1 = grants .count ∙ length-grantBlocks bytes in
-    let stands : Ledger-stands bytes ledger = record {
+    let stands : LedgerStands bytes ledger = record {
       names = refl;
       names-least = rw n at (block .names-least);
       names-most = rw n at (block .names-most);

@@ -1,1 +1,8 @@
 pub mod Reading
+pub mod Answers
+pub mod Algebra
+pub mod Rules
+pub mod Witness
+pub mod Extracts
+pub mod Derivations
+pub mod Cases

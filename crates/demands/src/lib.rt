@@ -1,3 +1,8 @@
-// The theorems: each is the promise of a function without parameters and with an empty body, under a name that says it.
-// The claims are definitions of specs/, over document 01's definitions in the crate `model`.
+// The client's demands as theorems about the definitions of crate `model`. Each is what a function without parameters ensures.
+pub mod algebra;
+pub mod answers;
+pub mod cases;
+pub mod derivations;
+pub mod extracts;
 pub mod reading;
+pub mod rules;

@@ -1,12 +1,12 @@
 -- What each refusal of a term means (document 01, "Refusals by operation", Term): the reader gives it exactly under its condition. Assumes nothing.
-use Prim.Native.Nat.{ℕ, zero, suc, _+_, _<_, _≤_}
+use Prim.Native.Nat.{ℕ, zero, suc, _<_, _≤_}
 use native.Mathlib.Omega.{arith}
 use native.Mathlib.Decide.{decLt}
 use mathlib.Core.Logic.{_↔_, _⊎_, inl, inr, ⊎-elim}
-use mathlib.Core.Path.{_≡_, refl, sym, ap, _∙_}
+use mathlib.Core.Path.{_≡_, refl, ap, _∙_}
 use mathlib.Core.List.{List, [], _∷_, _++_, append-assoc, append-nil}
 use lib.ListN.{length, length-append}
-use Rattle.model.specs.Bytes.{Reading, accepted, refused}
+use Rattle.model.specs.Bytes.{refused}
 use Rattle.model.specs.Terms.{Term, name, top, bottom, conj, disj, project, projectCode, codes, NamesBelow, Code, whole, one, two, none, codeOf, Front, found, stopped, onward, readParts, readFront, allRead, readTerm}
 use Rattle.model.specs.Refusals.{RightLength, WrongLength, Beginning, NoCode, CodesLeft}
 use Rattle.model.proofs.Reading.{Right, code-right, rest-shorter, front-none, front-step, front-sound, code-project, front-codes, term-within, term-case}

@@ -97,8 +97,8 @@ withCheck body = body ++ bigEndian (checkOf body)
 unfoldable pub ledgerOf : ℕ → List (List ℕ) → List ℕ
 ledgerOf n blocks = withCheck (1 ∷ n ∷ bigEndian (length blocks) ++ replicate 506 0) ++ joined blocks
 
--- the blocks, counted from i, at whose number `out` does not hold
-unfoldable pub leaveOut : (ℕ → Bool) → ℕ → List (List ℕ) → List (List ℕ)
+-- of things counted from i, those at whose number `out` does not hold
+unfoldable pub leaveOut : {A : Type 0} → (ℕ → Bool) → ℕ → List A → List A
 leaveOut out i [] = []
 leaveOut out i (b ∷ bs) = cond (out i) (leaveOut out (suc i) bs) (b ∷ leaveOut out (suc i) bs)
 

@@ -1,0 +1,14 @@
+-- The theorems' proofs; a function's own proof only cites them.
+pub mod Asking
+pub mod Coalitions
+pub mod Soundness
+pub mod Principals
+pub mod Completeness
+pub mod Sides
+pub mod Exact
+pub mod SevenRules
+pub mod Below
+pub mod Telling
+pub mod Comparing
+pub mod Deriving
+pub mod Tried

@@ -1,0 +1,5 @@
+-- What the proofs of several functions use, and what other crates cite.
+pub mod Packing
+pub mod Names
+pub mod Steps
+pub mod Searches

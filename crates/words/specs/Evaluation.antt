@@ -1,0 +1,49 @@
+-- Where terms are held (document 01, "Terms"), 64 coalitions in a word: bit j of word w is coalition 64 × w + j. Assumes nothing: these are definitions.
+use mathlib.Core.Path.{_≡_}
+use mathlib.Core.Bool.{Bool, true, false}
+use mathlib.Core.List.{List, _++_}
+use Prim.Native.Nat.{ℕ, _+_, _-_, _*_, _^_, _≤_, _<_, min}
+use lib.Dec.{ltb}
+use lib.ListN.{length, drop}
+use Rattle.model.specs.Answers.{Side, confidentiality, integrity}
+use Rattle.model.specs.Terms.{Term, codes, NamesBelow, held}
+use Rattle.model.specs.Extracts.{packed}
+
+-- word w of a term on a side
+abbrev pub heldWord : Term → Side → ℕ → ℕ
+heldWord t s w = packed (held t s) (64 * w) 64
+
+-- word w of the coalitions of n names, those below 2^n
+abbrev pub coalitionWord : ℕ → ℕ → ℕ
+coalitionWord n w = packed (λ c. ltb c (2 ^ n)) (64 * w) 64
+
+-- How many words the coalitions of n names take, n being 12 at most: the least that hold 2^n bits.
+abbrev pub wordsOf : ℕ → ℕ
+wordsOf n = 2 ^ (min n 12 - 6)
+
+-- word w of the term t on both sides, and the place after its codes, which start at `at`
+pub record HeldAt (t : Term) (at w see change next : ℕ) : Type 0 where
+  pub see-word : see ≡ heldWord t confidentiality w
+  pub change-word : change ≡ heldWord t integrity w
+  pub past : next ≡ at + length (codes t)
+
+-- What evaluating at a place of any bytes answers: of the term whose codes stand there, if one does, its words and the place after it;
+-- and never a place before `at`, so that the codes left fall.
+pub record Evaluated (bytes : List ℕ) (at w see change next : ℕ) : Type 0 where
+  pub forward : at ≤ next
+  pub term : (n : ℕ) (t : Term) (rest : List ℕ) → drop at bytes ≡ codes t ++ rest → NamesBelow n t → HeldAt t at w see change next
+
+-- the same of bytes that are one whole term
+pub record EvaluatedWhole (bytes : List ℕ) (w see change next : ℕ) : Type 0 where
+  pub term : (n : ℕ) (t : Term) → bytes ≡ codes t → NamesBelow n t → HeldAt t 0 w see change next
+
+-- of the k marks f i, f (i + 1), .. the first that is set is number r
+pub record LowestMark (f : ℕ → Bool) (i k r : ℕ) : Type 0 where
+  pub small : r < k
+  pub marked : f (i + r) ≡ true
+  pub least : (j : ℕ) → j < r → f (i + j) ≡ false
+
+-- r is the number of the lowest bit of x that is set, of whatever marks x is the word; 64 where there is none
+pub record LowestBit (x r : ℕ) : Type 0 where
+  pub found : (f : ℕ → Bool) (i : ℕ) → x ≡ packed f i 64 → (x ≡ 0 → ⊥) → LowestMark f i 64 r
+  pub none : x ≡ 0 → r ≡ 64

@@ -6,7 +6,7 @@ use mathlib.Core.List.{List}
 use lib.ListN.{length}
 use Rattle.model.specs.Bytes.{Reading, accepted, refused}
 use Rattle.model.specs.Ledgers.{Ledger, readLedger}
-use Rattle.model.proofs.AcceptedLedgers.{LedgerStands, ledger-stands}
+use Rattle.model.proofs.Stands.{LedgerStands, ledger-stands}
 use Rattle.ledgers.specs.Readings.{ledgerReading}
 use Rattle.ledgers.specs.declared.LedgerReading.the-variants.{Accepted, Refused}
 

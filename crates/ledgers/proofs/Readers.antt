@@ -10,7 +10,7 @@ use Rattle.model.specs.Terms.{Term, readTerm}
 use Rattle.model.specs.Grants.{Grant}
 use Rattle.model.specs.Ledgers.{grantBlocks, pBytes, qBytes, labelBytes, refusedAs, readTerms, readGrant, readGrants}
 use Rattle.model.proofs.Blocks.{length-grantBlocks, getD-grantBlocks}
-use Rattle.model.proofs.AcceptedLedgers.{grants-length}
+use Rattle.model.proofs.Stands.{read-grants}
 use Rattle.terms.specs.Readings.{termReading}
 use Rattle.terms.specs.declared.TermReading.{TermReading}
 use Rattle.terms.specs.declared.TermReading.the-variants.{Accepted as AcceptedTerm, Refused as RefusedTerm}
@@ -89,7 +89,7 @@ onGrants (Refused r) next = RefusedLedger r
 pub ledger-answer : (n : ℕ) (bs : List (List ℕ))
     → ledgerReading (andThen (readGrants n bs) (λ gs. accepted (record { names = n; grants = gs })))
     ≡ onGrants (grantReading (readGrants n bs)) (AcceptedLedger n (length bs))
-ledger-answer n bs = counted (readGrants n bs) (grants-length n bs)
+ledger-answer n bs = counted (readGrants n bs) (λ gs e. read-grants n bs gs e .count)
   where
     counted : (r : Reading (List Grant)) → ((gs : List Grant) → r ≡ accepted gs → length gs ≡ length bs)
         → ledgerReading (andThen r (λ gs. accepted (record { names = n; grants = gs }))) ≡ onGrants (grantReading r) (AcceptedLedger n (length bs))

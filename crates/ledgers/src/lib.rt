@@ -252,7 +252,10 @@ pub fn ledger_refusal(reading: LedgerReading) -> u8
     ensures { λ k. ⌜ k ≡ ledgerRefusal reading ⌝ }
 {
     match reading {
-        LedgerReading::Accepted { names: _, grants: _ } => 0,
+        LedgerReading::Accepted {
+            names: _,
+            grants: _,
+        } => 0,
         LedgerReading::Refused(k) => k,
     }
 }

@@ -2,8 +2,6 @@
 pub mod Truth
 pub mod Reading
 pub mod Refusals
-pub mod Blocks
-pub mod AcceptedLedgers
 pub mod Search
 pub mod Judge
 pub mod Sound
@@ -12,3 +10,5 @@ pub mod Table
 pub mod Same
 pub mod Accepted
 pub mod Without
+pub mod Blocks
+pub mod Stands

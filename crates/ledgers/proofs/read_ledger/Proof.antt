@@ -9,7 +9,7 @@ use borrow.Author.Tests.{not-true, not-false}
 use Rattle.model.specs.Bytes.{byte}
 use Rattle.model.specs.Ledgers.{checked, allChecked, header, grantBlocks, headerForm, ledgerLength, readLedger}
 use Rattle.model.proofs.Blocks.{length-grantBlocks}
-use Rattle.model.proofs.AcceptedLedgers.{ledger-blocks}
+use Rattle.model.proofs.Stands.{ledger-blocks}
 use Rattle.ledgers.specs.Readings.{grantRefusal, ledgerReading}
 use Rattle.ledgers.specs.declared.GrantReading.{GrantReading}
 use Rattle.ledgers.specs.declared.LedgerReading.the-variants.{Accepted, Refused}

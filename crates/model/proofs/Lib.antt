@@ -12,4 +12,6 @@ pub mod Extracted
 pub mod Same
 pub mod Accepted
 pub mod Without
+pub mod Blocks
+pub mod Stands
 pub mod Steps

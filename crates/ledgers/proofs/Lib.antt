@@ -1,0 +1,6 @@
+pub mod Sums
+pub mod Parts
+pub mod Checks
+pub mod Shapes
+pub mod Readers
+pub mod Accepted

@@ -1,12 +1,12 @@
 -- The bytes of a word of marks are the extract's. Assumes nothing.
 use mathlib.Core.Path.{_≡_, refl, sym, ap, ap₂, _∙_}
 use mathlib.Core.Bool.{Bool}
-use mathlib.Core.List.{List, [], _∷_}
-use Prim.Native.Nat.{ℕ, zero, suc, _+_, _*_, _/_, _%_, _^_, _<_, suc-le-suc}
-use native.Mathlib.Nat.{not-suc-le-zero, le-of-suc-le-suc, div-one, div-div-eq-div-mul}
+use mathlib.Core.List.{List, _∷_}
+use Prim.Native.Nat.{ℕ, zero, suc, _+_, _*_, _/_, _%_, _^_, _<_}
+use native.Mathlib.Nat.{not-suc-le-zero, le-of-suc-le-suc, div-one}
 use native.Mathlib.Omega.{arith}
 use lib.ListN.{length, getD}
-use lib.Pow.{pow-add, shr-shr}
+use lib.Pow.{shr-shr}
 use Rattle.model.specs.Extracts.{packed, packedBytes}
 use Rattle.model.proofs.Packed.{packed-lt}
 use Rattle.words.proofs.Packing.{packed-split}

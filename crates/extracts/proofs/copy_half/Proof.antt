@@ -1,15 +1,12 @@
 -- `extracts::copy_half` meets its contract. The loop's invariant: the first k bytes of the half are in the buffer. Assumes nothing.
-use Prim.Native.Nat.{_+_, _-_, _≤_}
+use Prim.Native.Nat.{_-_, _≤_}
 use native.Mathlib.Omega.{arith}
 use mathlib.Core.Path.{_≡_, refl}
-use lib.ListN.{length}
 use lib.Seq.{paste, paste-zero}
 use borrow.Author.Needs.{needs}
 use Rattle.extracts.proofs.Pasting.{paste-more, paste-long, paste-end}
 use Rattle.extracts.proofs.copy_half.Statement.{statement}
 use Rattle.extracts.proofs.copy_half.Tie as tie
-use Rattle.extracts.proofs.copy_half.Reads as reads
-use Rattle.extracts.proofs.copy_half.Lts as lts
 
 abbrev Inv-loop : tie.InvT-loop
 Inv-loop half buffer₀ at k₀ buffer k = (k ≤ 512) × (buffer ≡ paste buffer₀ at half k)
@@ -17,48 +14,39 @@ Inv-loop half buffer₀ at k₀ buffer k = (k ≤ 512) × (buffer ≡ paste buff
 abbrev μ-loop : tie.MeasureT-loop
 μ-loop half buffer₀ at k₀ buffer k = 512 - k
 
--- src/lib.rt:26:5
 loop-holds : tie.Need-loop-holds Inv-loop μ-loop
 loop-holds c = (omega arith, paste-zero (c .args .buffer .now) (c .args .at) (c .args .half .now))
 
--- src/lib.rt:27:26
 element-copy-out-buffer : tie.Need-element-copy-out-buffer Inv-loop μ-loop
 element-copy-out-buffer c = search needs
 
--- src/lib.rt:27:16
 add-buffer : tie.Need-add-buffer Inv-loop μ-loop
 add-buffer c = omega arith
 
--- src/lib.rt:27:9
 slice-write-buffer : tie.Need-slice-write-buffer Inv-loop μ-loop
 slice-write-buffer c =
     let l = c .before .before .loop in
     let a = c .before .before .before .args in
     omega (arith, paste-long (a .buffer .now) (l .buffer) (a .at) (l .k) (a .half .now) (omega arith) (omega arith) (l .inv .1))
 
--- src/lib.rt:28:9
 add-k : tie.Need-add-k Inv-loop μ-loop
 add-k c = omega arith
 
--- src/lib.rt:26:5
 loop-less : tie.Need-loop-less Inv-loop μ-loop
 loop-less c = omega arith
 
--- src/lib.rt:26:5
 loop-again : tie.Need-loop-again Inv-loop μ-loop
 loop-again c =
     let l = c .before .before .loop in
     let a = c .before .before .before .args in
     (omega arith, paste-more (a .buffer .now) (l .buffer) (a .at) (l .k) _ (a .half .now) (omega arith) (omega arith) refl (l .inv .1))
 
--- src/lib.rt:21:1
 same-length : tie.Need-same-length Inv-loop μ-loop
 same-length c =
     let l = c .before .loop in
     let a = c .before .before .args in
     paste-long (a .buffer .now) (l .buffer) (a .at) (l .k) (a .half .now) (omega arith) (omega arith) (l .inv .1)
 
--- src/lib.rt:21:1
 returns : tie.Need-returns Inv-loop μ-loop
 returns c =
     let l = c .before .loop in

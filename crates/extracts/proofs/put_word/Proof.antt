@@ -1,8 +1,7 @@
 -- `extracts::put_word` meets its contract. The loop's invariant: the first k bytes of the word are in the half. Assumes nothing.
-use Prim.Native.Nat.{_+_, _*_, _-_, _≤_}
+use Prim.Native.Nat.{_*_, _-_, _≤_}
 use native.Mathlib.Omega.{arith}
-use mathlib.Core.Path.{_≡_, refl}
-use lib.ListN.{length}
+use mathlib.Core.Path.{_≡_}
 use lib.Seq.{paste, paste-zero}
 use borrow.Author.Needs.{needs}
 use Rattle.extracts.specs.Halves.{littleEndian}
@@ -10,8 +9,6 @@ use Rattle.extracts.proofs.Pasting.{paste-more, paste-end}
 use Rattle.extracts.proofs.WordBytes.{length-bytes, byte-at}
 use Rattle.extracts.proofs.put_word.Statement.{statement}
 use Rattle.extracts.proofs.put_word.Tie as tie
-use Rattle.extracts.proofs.put_word.Reads as reads
-use Rattle.extracts.proofs.put_word.Lts as lts
 
 abbrev Inv-loop : tie.InvT-loop
 Inv-loop half₀ w word k₀ half k = (k ≤ 8) × (half ≡ paste half₀ (8 * w) (littleEndian 8 word) k)
@@ -19,50 +16,39 @@ Inv-loop half₀ w word k₀ half k = (k ≤ 8) × (half ≡ paste half₀ (8 * 
 abbrev μ-loop : tie.MeasureT-loop
 μ-loop half₀ w word k₀ half k = 8 - k
 
--- src/lib.rt:14:5
 loop-holds : tie.Need-loop-holds Inv-loop μ-loop
 loop-holds c = (omega arith, paste-zero (c .args .half .now) (8 * c .args .w) (littleEndian 8 (c .args .word)))
 
--- src/lib.rt:15:38
 mul-half : tie.Need-mul-half Inv-loop μ-loop
 mul-half c = search needs
 
--- src/lib.rt:15:29
 shr-half : tie.Need-shr-half Inv-loop μ-loop
 shr-half c = search needs
 
--- src/lib.rt:15:27
 cast-half : tie.Need-cast-half Inv-loop μ-loop
 cast-half c = search needs
 
--- src/lib.rt:15:14
 mul-half-2 : tie.Need-mul-half-2 Inv-loop μ-loop
 mul-half-2 c = search needs
 
--- src/lib.rt:15:14
 add-half : tie.Need-add-half Inv-loop μ-loop
 add-half c = search needs
 
--- src/lib.rt:15:9
 element-write-half : tie.Need-element-write-half Inv-loop μ-loop
 element-write-half c = search needs
 
--- src/lib.rt:16:9
 add-k : tie.Need-add-k Inv-loop μ-loop
 add-k c = search needs
 
--- src/lib.rt:14:5
 loop-less : tie.Need-loop-less Inv-loop μ-loop
 loop-less c = search needs
 
--- src/lib.rt:14:5
 loop-again : tie.Need-loop-again Inv-loop μ-loop
 loop-again c =
     let l = c .before .loop in
     let a = c .before .before .args in
     (omega arith, paste-more (a .half .now) (l .half) (8 * a .w) (l .k) _ (littleEndian 8 (a .word)) (omega arith) (omega (arith, length-bytes 8 (a .word))) (byte-at 8 (a .word) (l .k) (omega arith)) (l .inv .1))
 
--- src/lib.rt:9:1
 returns : tie.Need-returns Inv-loop μ-loop
 returns c =
     let l = c .before .loop in

@@ -80,7 +80,8 @@ pub fn extract(ledger: &[u8], label: &[u8], buffer: &mut [u8]) -> Extracted
     };
     let said = terms::read_term(label, names);
     let TermReading::Accepted = said else {
-        return Extracted::Refused(40 + terms::term_refusal(said));
+        let refusal = 40 + terms::term_refusal(said);
+        return Extracted::Refused(refusal);
     };
     let marks = decisions::counting(ledger, names, grants, label);
     let mut see = [0u8; 512];

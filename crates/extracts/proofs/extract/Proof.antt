@@ -1,8 +1,9 @@
 -- `extracts::extract` meets its contract: the refusals in their order, and then the table. Assumes nothing.
 use Prim.Native.Nat.{ℕ, _+_, _≤_}
 use native.Mathlib.Omega.{arith}
-use mathlib.Core.Path.{sym, ap, _∙_}
+use mathlib.Core.Path.{_≡_, sym, ap, _∙_}
 use mathlib.Core.List.{List}
+use lib.ListN.{length}
 use lib.Seq.{paste}
 use borrow.Author.Needs.{needs}
 use Rattle.model.specs.Questions.{soundUnder}
@@ -105,8 +106,8 @@ refusal-small c =
     let k = c .before .before .before .before in
     omega (arith, c .term-refusal .ensures ∙ ap termRefusal (c .before .before .before .read-term .ensures), term-refusal-small (names k) (labelIn (sized k)))
 
-add-t15 : tie.Need-add-t15
-add-t15 c = omega (arith, refusal-small c)
+add-refusal : tie.Need-add-refusal
+add-refusal c = omega (arith, refusal-small c)
 
 returns-3 : tie.Need-returns-3
 returns-3 c =
@@ -161,7 +162,7 @@ extract-spec =
     enum-told-2
     enum-told-3
     term-refusal-requires
-    add-t15
+    add-refusal
     returns-3
     counting-requires
     mark-sound-requires

@@ -1,0 +1,29 @@
+-- What the calls of this crate promise, on all bytes (document 01, "Grants that count"). Assumes nothing: these are definitions.
+use mathlib.Core.Path.{_≡_}
+use mathlib.Core.Bool.{Bool}
+use mathlib.Core.List.{List}
+use Prim.Native.Nat.{ℕ, _*_, _≤_, _<_}
+use lib.ListN.{length, getD}
+use Rattle.model.specs.Answers.{confidentiality, integrity}
+use Rattle.model.specs.Bytes.{accepted}
+use Rattle.model.specs.Terms.{Term, readTerm}
+use Rattle.model.specs.Grants.{Grant, counts}
+use Rattle.model.specs.Ledgers.{Ledger, readLedger}
+use Rattle.model.specs.Extracts.{packed}
+use Rattle.model.specs.Derivations.{ofGrant}
+use Rattle.words.specs.Evaluation.{heldWord}
+
+-- The first k words of a term, a list of them for each side.
+pub record HasWords (k : ℕ) (t : Term) (see change : List ℕ) : Type 0 where
+  pub see-word : (w : ℕ) → w < k → getD see w 0 ≡ heldWord t confidentiality w
+  pub change-word : (w : ℕ) → w < k → getD change w 0 ≡ heldWord t integrity w
+
+-- The bytes are a ledger of n names and `grants` grants.
+pub record LedgerOf (bytes : List ℕ) (n grants : ℕ) (l : Ledger) : Type 0 where
+  pub is : readLedger bytes ≡ accepted l
+  pub names : n ≡ l .names
+  pub count : grants ≡ length (l .grants)
+
+-- bit k is set exactly if grant k counts under the label
+abbrev pub countingMarks : ℕ → Term → Ledger → ℕ
+countingMarks n L l = packed (ofGrant (counts n L) (l .grants)) 0 64

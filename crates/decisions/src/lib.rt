@@ -1,0 +1,71 @@
+// Which grants count, the words of sound coalitions, and the answers to acts-for and flows-to questions (document 01).
+ghost use mathlib.Core.Path.{_≡_};
+ghost use Prim.Native.Nat.{_≤_};
+ghost use lib.ListN.{length};
+ghost use Rattle.model.specs.Bytes.{accepted};
+ghost use Rattle.model.specs.Terms.{Term, readTerm};
+ghost use Rattle.model.specs.Grants.{Grant, counts};
+ghost use Rattle.model.specs.Ledgers.{Ledger, readLedger};
+ghost use Rattle.model.specs.Extracts.{packed};
+ghost use Rattle.model.specs.Derivations.{ofGrant};
+ghost use Rattle.words.specs.Evaluation.{wordsOf};
+ghost use Rattle.decisions.specs.Promises.{HasWords, LedgerOf, countingMarks};
+
+// All words of a term, word w at place w: they are computed once and not once a grant.
+fn fill_words(codes: &[u8], n: u64, see: &mut [u64; 64], change: &mut [u64; 64])
+    ensures { λ _. ⌜ ((t : Term) → readTerm n (now (codes .entry)) ≡ accepted t → HasWords (wordsOf n) t (now (see .exit)) (now (change .exit))) ⌝ }
+{
+    let words = words::word_count(n);
+    let mut w: u64 = 0;
+    while w < words {
+        let held = words::words_of(codes, w);
+        let at = w as usize;
+        see[at] = held.see;
+        change[at] = held.change;
+        w += 1;
+    }
+}
+
+// The grant of what q may do, labelled d, counts under the label whose words these are: it is visible and spoken.
+fn grant_counts(see: &[u64; 64], change: &[u64; 64], n: u64, q: &[u8], d: &[u8]) -> bool
+    ensures { λ r. ⌜ ((L : Term) (g : Grant) → n ≤ 12 → HasWords (wordsOf n) L (now (see .entry)) (now (change .entry)) → readTerm n (now (q .entry)) ≡ accepted (g .q) → readTerm n (now (d .entry)) ≡ accepted (g .label) → r ≡ counts n L g) ⌝ }
+{
+    let words = words::word_count(n);
+    let mut w: u64 = 0;
+    while w < words {
+        let at = w as usize;
+        let label = words::words_of(d, w);
+        let spoken = words::words_of(q, w);
+        let unseen = see[at] & !label.see;
+        let unchanged = label.change & !change[at];
+        let unspoken = label.change & !(spoken.see & spoken.change);
+        let mask = words::low_mask(n, w);
+        if mask & (unseen | unchanged | unspoken) != 0 {
+            return false;
+        }
+        w += 1;
+    }
+    true
+}
+
+// Bit k is set exactly if grant k counts under the label.
+pub fn counting(ledger: &[u8], n: u64, grants: usize, label: &[u8]) -> u64
+    ensures { λ r. ⌜ ((l : Ledger) (L : Term) → LedgerOf (now (ledger .entry)) n grants l → readTerm n (now (label .entry)) ≡ accepted L → r ≡ countingMarks n L l) ⌝ }
+{
+    if 64 < grants {
+        return 0;
+    }
+    let mut see = [0u64; 64];
+    let mut change = [0u64; 64];
+    fill_words(label, n, &mut see, &mut change);
+    let mut marks: u64 = 0;
+    let mut k = grants;
+    while 0 < k {
+        k -= 1;
+        let q = ledgers::grant_q(ledger, k);
+        let d = ledgers::grant_label(ledger, k);
+        let counts = grant_counts(&see, &change, n, q, d);
+        marks = (marks << 1) | (counts as u64);
+    }
+    marks
+}

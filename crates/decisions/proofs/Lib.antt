@@ -1,1 +1,4 @@
 -- Laws that the proofs of this crate cite.
+pub mod Tests
+pub mod Filled
+pub mod Marks

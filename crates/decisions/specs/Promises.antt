@@ -11,12 +11,19 @@ use Rattle.model.specs.Grants.{Grant, counts}
 use Rattle.model.specs.Ledgers.{Ledger, readLedger}
 use Rattle.model.specs.Extracts.{packed}
 use Rattle.model.specs.Derivations.{ofGrant}
-use Rattle.words.specs.Evaluation.{heldWord}
+use Rattle.words.specs.Evaluation.{heldWord, wordsOf}
 
 -- The first k words of a term, a list of them for each side.
 pub record HasWords (k : ℕ) (t : Term) (see change : List ℕ) : Type 0 where
   pub see-word : (w : ℕ) → w < k → getD see w 0 ≡ heldWord t confidentiality w
   pub change-word : (w : ℕ) → w < k → getD change w 0 ≡ heldWord t integrity w
+
+-- The bytes of a grant's q and of its label, in a job of n names, and the words of the label that it is judged under.
+pub record GrantGiven (n : ℕ) (see change q d : List ℕ) (L : Term) (g : Grant) : Type 0 where
+  pub names-most : n ≤ 12
+  pub words : HasWords (wordsOf n) L see change
+  pub q-read : readTerm n q ≡ accepted (g .q)
+  pub label-read : readTerm n d ≡ accepted (g .label)
 
 -- The bytes are a ledger of n names and `grants` grants.
 pub record LedgerOf (bytes : List ℕ) (n grants : ℕ) (l : Ledger) : Type 0 where

@@ -9,10 +9,11 @@ ghost use Rattle.model.specs.Ledgers.{Ledger, readLedger};
 ghost use Rattle.model.specs.Extracts.{packed};
 ghost use Rattle.model.specs.Derivations.{ofGrant};
 ghost use Rattle.words.specs.Evaluation.{wordsOf};
-ghost use Rattle.decisions.specs.Promises.{HasWords, LedgerOf, countingMarks};
+ghost use Rattle.decisions.specs.Promises.{HasWords, GrantGiven, LedgerOf, countingMarks};
 
 // All words of a term, word w at place w: they are computed once and not once a grant.
 fn fill_words(codes: &[u8], n: u64, see: &mut [u64; 64], change: &mut [u64; 64])
+    requires { ⌜ (length (now see) ≡ 64) × (length (now change) ≡ 64) ⌝ }
     ensures { λ _. ⌜ ((t : Term) → readTerm n (now (codes .entry)) ≡ accepted t → HasWords (wordsOf n) t (now (see .exit)) (now (change .exit))) ⌝ }
 {
     let words = words::word_count(n);
@@ -28,7 +29,7 @@ fn fill_words(codes: &[u8], n: u64, see: &mut [u64; 64], change: &mut [u64; 64])
 
 // The grant of what q may do, labelled d, counts under the label whose words these are: it is visible and spoken.
 fn grant_counts(see: &[u64; 64], change: &[u64; 64], n: u64, q: &[u8], d: &[u8]) -> bool
-    ensures { λ r. ⌜ ((L : Term) (g : Grant) → n ≤ 12 → HasWords (wordsOf n) L (now (see .entry)) (now (change .entry)) → readTerm n (now (q .entry)) ≡ accepted (g .q) → readTerm n (now (d .entry)) ≡ accepted (g .label) → r ≡ counts n L g) ⌝ }
+    ensures { λ r. ⌜ ((L : Term) (g : Grant) → GrantGiven n (now (see .entry)) (now (change .entry)) (now (q .entry)) (now (d .entry)) L g → r ≡ counts n L g) ⌝ }
 {
     let words = words::word_count(n);
     let mut w: u64 = 0;

@@ -2,3 +2,4 @@
 pub mod Tests
 pub mod Filled
 pub mod Marks
+pub mod Keeping

@@ -19,7 +19,7 @@ use Rattle.model.proofs.Packed.{packed-lt}
 use Rattle.model.proofs.Prefixes.{ofGrant-getD, ofGrant-past}
 use Rattle.model.proofs.Stands.{GrantStands, LedgerStands, ledger-stands}
 use Rattle.words.specs.Evaluation.{wordsOf}
-use Rattle.words.proofs.Packing.{packed-zero}
+use Rattle.words.proofs.Packing.{bit-lt, packed-zero}
 use Rattle.decisions.specs.Promises.{HasWords, GrantGiven, LedgerOf}
 
 -- what stands for a grant past the last
@@ -34,10 +34,6 @@ byte-bit : (b : Bool) → boolByte b ≡ bit b
 byte-bit true = refl
 byte-bit false = refl
 
-bit-small : (b : Bool) → bit b < 2
-bit-small true = omega arith
-bit-small false = omega arith
-
 -- past the last grant no bit is set
 pub marks-none : (f : Grant → Bool) (gs : List Grant) (k : ℕ) → k ≡ length gs → 0 ≡ packed (ofGrant f gs) k (64 - k)
 marks-none f gs k e = sym (packed-zero (ofGrant f gs) k (64 - k) .1 (λ c h _. ofGrant-past f gs c (omega arith)))
@@ -50,7 +46,7 @@ marks-more f k x b some most e m =
     let upper : suc (k - 1) ≡ k = omega arith in
     let half : 64 - k ≤ 63 = omega arith in
     let low : x * 2 % 2 ^ 64 ≡ x * 2 = mod-eq-of-lt (omega (arith, packed-lt f k (64 - k), pow-mono half)) in
-    ap₂ bitOr low (byte-bit b) ∙ or-shifted x 1 (bit b) (bit-small b)
+    ap₂ bitOr low (byte-bit b) ∙ or-shifted x 1 (bit b) (bit-lt b)
     ∙ rw (lower, upper) (rw (← m, ← e) (omega arith))
 
 module _ (bytes : List ℕ) (n grants : ℕ) (l : Ledger) (h : LedgerOf bytes n grants l) where

@@ -1,14 +1,15 @@
 -- What the calls of this crate promise, on all bytes (document 01, "Grants that count"). Assumes nothing: these are definitions.
 use mathlib.Core.Path.{_≡_}
-use mathlib.Core.Bool.{Bool}
+use mathlib.Core.Bool.{_&&_}
 use mathlib.Core.List.{List}
 use Prim.Native.Nat.{ℕ, _*_, _≤_, _<_}
 use lib.ListN.{length, getD}
 use Rattle.model.specs.Answers.{confidentiality, integrity}
 use Rattle.model.specs.Bytes.{accepted}
-use Rattle.model.specs.Terms.{Term, readTerm}
-use Rattle.model.specs.Grants.{Grant, counts}
+use Rattle.model.specs.Terms.{Term, readTerm, held}
+use Rattle.model.specs.Grants.{Grant, Marks, implies, counts}
 use Rattle.model.specs.Ledgers.{Ledger, readLedger}
+use Rattle.model.specs.Questions.{soundUnder}
 use Rattle.model.specs.Extracts.{packed}
 use Rattle.model.specs.Derivations.{ofGrant}
 use Rattle.words.specs.Evaluation.{heldWord, wordsOf}
@@ -34,3 +35,16 @@ pub record LedgerOf (bytes : List ℕ) (n grants : ℕ) (l : Ledger) : Type 0 wh
 -- bit k is set exactly if grant k counts under the label
 abbrev pub countingMarks : ℕ → Term → Ledger → ℕ
 countingMarks n L l = packed (ofGrant (counts n L) (l .grants)) 0 64
+
+-- Word w of a set of coalitions on each side.
+pub record WordsOf (f : Marks) (w see change : ℕ) : Type 0 where
+  pub see-word : see ≡ packed (f confidentiality) (64 * w) 64
+  pub change-word : change ≡ packed (f integrity) (64 * w) 64
+
+-- those of f that hold the grant's q where they hold its p
+abbrev pub keeping : Marks → Grant → Marks
+keeping f g s c = f s c && implies (held (g .p) s c) (held (g .q) s c)
+
+-- those of f that are sound under the label
+abbrev pub soundOf : Ledger → Term → Marks → Marks
+soundOf l L f s c = f s c && soundUnder l L s c

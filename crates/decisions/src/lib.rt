@@ -1,15 +1,16 @@
 // Which grants count, the words of sound coalitions, and the answers to acts-for and flows-to questions (document 01).
 ghost use mathlib.Core.Path.{_≡_};
-ghost use Prim.Native.Nat.{_≤_};
+ghost use Prim.Native.Nat.{ℕ};
 ghost use lib.ListN.{length};
 ghost use Rattle.model.specs.Bytes.{accepted};
 ghost use Rattle.model.specs.Terms.{Term, readTerm};
-ghost use Rattle.model.specs.Grants.{Grant, counts};
-ghost use Rattle.model.specs.Ledgers.{Ledger, readLedger};
-ghost use Rattle.model.specs.Extracts.{packed};
-ghost use Rattle.model.specs.Derivations.{ofGrant};
+ghost use Rattle.model.specs.Grants.{Grant, Marks, counts};
+ghost use Rattle.model.specs.Ledgers.{Ledger, pBytes, qBytes};
+ghost use Rattle.model.specs.Questions.{soundUnder};
+ghost use Rattle.model.specs.Extracts.{mark};
+ghost use Rattle.model.specs.Derivations.{grantBlock};
 ghost use Rattle.words.specs.Evaluation.{wordsOf};
-ghost use Rattle.decisions.specs.Promises.{HasWords, GrantGiven, LedgerOf, countingMarks};
+ghost use Rattle.decisions.specs.Promises.{HasWords, GrantGiven, LedgerOf, countingMarks, WordsOf, keeping, soundOf};
 
 // All words of a term, word w at place w: they are computed once and not once a grant.
 fn fill_words(codes: &[u8], n: u64, see: &mut [u64; 64], change: &mut [u64; 64])
@@ -69,4 +70,54 @@ pub fn counting(ledger: &[u8], n: u64, grants: usize, label: &[u8]) -> u64
         marks = (marks << 1) | (counts as u64);
     }
     marks
+}
+
+// Word w of a set of coalitions on each side.
+pub struct Words {
+    pub see: u64,
+    pub change: u64,
+}
+
+// Those of two words that keep grant k: they hold its q where they hold its p.
+fn keep(ledger: &[u8], k: usize, w: u64, of: Words) -> Words
+    ensures { λ r. ⌜ ((n : ℕ) (g : Grant) (f : Marks) → readTerm n (pBytes (grantBlock (now (ledger .entry)) k)) ≡ accepted (g .p) → readTerm n (qBytes (grantBlock (now (ledger .entry)) k)) ≡ accepted (g .q) → WordsOf f w (of .see) (of .change) → WordsOf (keeping f g) w (r .see) (r .change)) ⌝ }
+{
+    let p = words::words_of(ledgers::grant_p(ledger, k), w);
+    let q = words::words_of(ledgers::grant_q(ledger, k), w);
+    Words {
+        see: of.see & (q.see | !p.see),
+        change: of.change & (q.change | !p.change),
+    }
+}
+
+// Those of two words that are sound: they keep every counting grant. It ends where none is left.
+fn keep_all(ledger: &[u8], grants: usize, marks: u64, w: u64, of: Words) -> Words
+    ensures { λ r. ⌜ ((n : ℕ) (l : Ledger) (L : Term) (f : Marks) → LedgerOf (now (ledger .entry)) n grants l → marks ≡ countingMarks n L l → WordsOf f w (of .see) (of .change) → WordsOf (soundOf l L f) w (r .see) (r .change)) ⌝ }
+{
+    let mut kept = of;
+    let mut left = marks;
+    let mut k: usize = 0;
+    while k < grants {
+        if left % 2 == 1 {
+            kept = keep(ledger, k, w, kept);
+            if kept.see | kept.change == 0 {
+                return kept;
+            }
+        }
+        left /= 2;
+        k += 1;
+    }
+    kept
+}
+
+// Word w of the sound coalitions of n names, marks being the grants that count.
+pub fn sound_word(ledger: &[u8], n: u64, grants: usize, marks: u64, w: u64) -> Words
+    ensures { λ r. ⌜ ((l : Ledger) (L : Term) → LedgerOf (now (ledger .entry)) n grants l → marks ≡ countingMarks n L l → WordsOf (λ s. mark n (soundUnder l L s)) w (r .see) (r .change)) ⌝ }
+{
+    let mask = words::low_mask(n, w);
+    let all = Words {
+        see: mask,
+        change: mask,
+    };
+    keep_all(ledger, grants, marks, w, all)
 }

@@ -1,7 +1,7 @@
 -- `extracts::extract` meets its contract: the refusals in their order, and then the table. Assumes nothing.
 use Prim.Native.Nat.{ℕ, _+_, _≤_}
 use native.Mathlib.Omega.{arith}
-use mathlib.Core.Path.{_≡_, sym, ap, _∙_}
+use mathlib.Core.Path.{_≡_, refl, sym, ap, _∙_}
 use mathlib.Core.List.{List}
 use lib.ListN.{length}
 use lib.Seq.{paste}
@@ -56,16 +56,17 @@ label-of c = accepted-term (names (known c)) (labelIn (sized (known c))) (sym (c
 ledger-is : (c : tie.After-known-told) → LedgerOf (ledgerIn (sized c)) (names c) (count c) (ledger-of c .ledger)
 ledger-is c = let a = ledger-of c in record { is = a .is; names = sym (a .names); count = sym (a .count) }
 
+-- nothing can be refused any more
+abbrev accepted : tie.After-mark-sound → tie.After-enum-told2
+accepted c = c .before .before .before .before
+
 -- both halves are marked
-halves : (c : tie.After-mark-sound) →
-    let accepted = c .before .before .before .before in
-    Halves (names (known accepted)) (soundUnder (ledger-of (known accepted) .ledger) (label-of accepted .term)) (c .mark-sound .last .1 .1 .1 .1 .0) (c .mark-sound .last .1 .1 .1 .1 .1 .0)
+halves : (c : tie.After-mark-sound) → Halves (names (known (accepted c))) (soundUnder (ledger-of (known (accepted c)) .ledger) (label-of (accepted c) .term)) (c .mark-sound .last .1 .1 .1 .1 .0) (c .mark-sound .last .1 .1 .1 .1 .1 .0)
 halves c =
-    let counted = c .before .before .before in
-    let l = ledger-of (known (counted .before)) .ledger in
-    let L = label-of (counted .before) in
-    let is = ledger-is (known (counted .before)) in
-    c .mark-sound .ensures l (L .term) is (counted .counting .ensures l (L .term) is (L .is))
+    let l = ledger-of (known (accepted c)) .ledger in
+    let L = label-of (accepted c) in
+    let is = ledger-is (known (accepted c)) in
+    c .mark-sound .ensures l (L .term) is (c .before .before .before .counting .ensures l (L .term) is (L .is))
 
 returns : tie.Need-returns
 returns c = let a = c .before .before .before .before .args in size-refused (a .ledger .now) (a .label .now) (a .buffer .now) (λ e. omega arith)
@@ -122,31 +123,41 @@ counting-requires : tie.Need-counting-requires
 counting-requires c κs = search needs
 
 mark-sound-requires : tie.Need-mark-sound-requires
-mark-sound-requires c κs = search needs
+mark-sound-requires c κs = (refl, refl)
 
 copy-half-requires : tie.Need-copy-half-requires
 copy-half-requires c κs =
-    let marked = c .before .before in
-    (see-length (halves marked), omega (arith, fits (sized (known (marked .before .before .before .before)))))
+    let m = c .before .before in
+    (see-length (halves m), omega (arith, fits (sized (known (accepted m)))))
 
 copy-half-requires-2 : tie.Need-copy-half-requires-2
 copy-half-requires-2 c κs =
-    let marked = c .before .before .before .before .before .before .before in
-    (change-length (halves marked), omega (arith, c .before .before .before .before .copy-half .kept, fits (sized (known (marked .before .before .before .before)))))
+    let m = c .before .before .before .before .before .before .before in
+    (change-length (halves m), omega (arith, c .before .before .before .before .copy-half .kept, fits (sized (known (accepted m)))))
 
 same-length : tie.Need-same-length
 same-length c = search needs
 
+-- both halves are copied, the see side first
+abbrev marked : tie.After-slice-known3 → tie.After-mark-sound
+marked c = c .before .before .before .before .before .before .before .before .before .before
+
+copied : (c : tie.After-slice-known3) →
+    let m = marked c in
+    c .before .before .copy-half2 .last .1 .0 ≡ paste (paste (bufferIn (sized (known (accepted m)))) 0 (m .mark-sound .last .1 .1 .1 .1 .0) 512) 512 (m .mark-sound .last .1 .1 .1 .1 .1 .0) 512
+copied c =
+    let first = c .before .before .before .before .before .before .before in
+    c .before .before .copy-half2 .ensures ∙ ap (λ (b : List ℕ). paste b 512 (marked c .mark-sound .last .1 .1 .1 .1 .1 .0) 512) (first .copy-half .ensures)
+
 returns-4 : tie.Need-returns-4
 returns-4 c =
-    let marked = c .before .before .before .before .before .before .before .before .before .before in
-    let a = marked .before .before .before .before in
+    let a = accepted (marked c) in
     let k = known a in
     let s = sized k in
     let l = ledger-of k in
     let L = label-of a in
     table-written (ledgerIn s) (labelIn s) (bufferIn s) (fits s) (l .ledger) (names k) (l .is) (l .names) (L .term) _ (L .is)
-    (c .before .before .copy-half2 .ensures ∙ ap (λ (b : List ℕ). paste b 512 (marked .mark-sound .last .1 .1 .1 .1 .1 .0) 512) (c .before .before .before .before .before .before .before .copy-half .ensures) ∙ halves-table _ _ _ _ (bufferIn s) (fits s) (halves marked))
+    (copied c ∙ halves-table _ _ _ _ (bufferIn s) (fits s) (halves (marked c)))
 
 pub extract-spec : {M : Type 1} → statement M
 extract-spec =

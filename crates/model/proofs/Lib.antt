@@ -15,3 +15,5 @@ pub mod Without
 pub mod Blocks
 pub mod Stands
 pub mod Steps
+pub mod Bars
+pub mod Prefixes

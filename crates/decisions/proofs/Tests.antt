@@ -82,3 +82,19 @@ counting-word n L g w mask ls lc ds dc dn qs qc qn m a b d q =
     (rw (packed-or (lacks (see L) (see (g .label))) (lacks (change (g .label)) (change L)) i 64)
     (rw (packed-or (λ c. lacks (see L) (see (g .label)) c || lacks (change (g .label)) (change L) c) (lacks (change (g .label)) (voice (g .q) integrity)) i 64)
     (packed-mark n (barsCounting L g) w)))))
+
+-- of the coalitions of the mask, those that hold p and not q on a side
+abbrev pub actingWord : (mask ps pc qs qc : ℕ) → ℕ
+actingWord mask ps pc qs qc = bitAnd mask (bitOr (bitAnd ps (0xFFFF_FFFF_FFFF_FFFF - qs)) (bitAnd pc (0xFFFF_FFFF_FFFF_FFFF - qc)))
+
+pub acting-word : (n : ℕ) (p q : Term) (w mask ps pc pn qs qc qn : ℕ) → mask ≡ coalitionWord n w → HeldAt p 0 w ps pc pn → HeldAt q 0 w qs qc qn
+    → actingWord mask ps pc qs qc ≡ packed (mark n (barsActing p q)) (64 * w) 64
+unfolding barsActing
+acting-word n p q w mask ps pc pn qs qc qn m a b =
+    let i = 64 * w in
+    let see : Term → ℕ → Bool = λ t. held t confidentiality in
+    let change : Term → ℕ → Bool = λ t. held t integrity in
+    rw (m, a .see-word, a .change-word, b .see-word, b .change-word)
+    (rw (packed-lacks (see p) (see q) i, packed-lacks (change p) (change q) i)
+    (rw (packed-or (lacks (see p) (see q)) (lacks (change p) (change q)) i 64)
+    (packed-mark n (barsActing p q) w)))

@@ -1,10 +1,10 @@
 // Which grants count, the words of sound coalitions, and the answers to acts-for and flows-to questions (document 01).
 ghost use mathlib.Core.Path.{_≡_};
-ghost use Prim.Native.Nat.{ℕ};
+ghost use Prim.Native.Nat.{ℕ, _≤_};
 ghost use lib.ListN.{length};
 ghost use Rattle.model.specs.Bytes.{accepted};
 ghost use Rattle.model.specs.Terms.{Term, readTerm};
-ghost use Rattle.model.specs.Grants.{Grant, Marks, counts};
+ghost use Rattle.model.specs.Grants.{Grant, Marks, actsStatically, counts};
 ghost use Rattle.model.specs.Ledgers.{Ledger, pBytes, qBytes};
 ghost use Rattle.model.specs.Questions.{soundUnder};
 ghost use Rattle.model.specs.Extracts.{mark};
@@ -120,4 +120,24 @@ pub fn sound_word(ledger: &[u8], n: u64, grants: usize, marks: u64, w: u64) -> W
         change: mask,
     };
     keep_all(ledger, grants, marks, w, all)
+}
+
+// Statically p acts for q, two accepted terms of a job of n names.
+pub fn acts_statically(n: u64, p: &[u8], q: &[u8]) -> bool
+    ensures { λ r. ⌜ ((tp tq : Term) → n ≤ 12 → readTerm n (now (p .entry)) ≡ accepted tp → readTerm n (now (q .entry)) ≡ accepted tq → r ≡ actsStatically n tp tq) ⌝ }
+{
+    let words = words::word_count(n);
+    let mut w: u64 = 0;
+    while w < words {
+        let from = words::words_of(p, w);
+        let to = words::words_of(q, w);
+        let unseen = from.see & !to.see;
+        let unchanged = from.change & !to.change;
+        let mask = words::low_mask(n, w);
+        if mask & (unseen | unchanged) != 0 {
+            return false;
+        }
+        w += 1;
+    }
+    true
 }

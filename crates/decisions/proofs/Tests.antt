@@ -20,6 +20,7 @@ use Rattle.words.specs.Evaluation.{heldWord, coalitionWord, wordsOf, HeldAt, Ev
 use Rattle.words.proofs.Packing.{packed-and, packed-or, packed-not, packed-lowest}
 use Rattle.words.proofs.Names.{words-enough}
 use Rattle.words.proofs.Searches.{packed-mark, none-more}
+use Rattle.decisions.specs.Promises.{ClearTo}
 
 -- the words of an accepted term
 pub held-words : (n : ℕ) (bytes : List ℕ) (t : Term) (w see change next : ℕ) → EvaluatedWhole bytes w see change next → readTerm n bytes ≡ accepted t → HeldAt t 0 w see change next
@@ -30,10 +31,6 @@ held-words n bytes t w see change next e r =
 -- `a & !b`
 pub packed-lacks : (f g : ℕ → Bool) (i : ℕ) → bitAnd (packed f i 64) (0xFFFF_FFFF_FFFF_FFFF - packed g i 64) ≡ packed (lacks f g) i 64
 packed-lacks f g i = ap (bitAnd (packed f i 64)) (packed-not g i 64) ∙ packed-and f (λ c. not (g c)) i 64
-
--- f holds at no coalition of the words before w
-abbrev pub ClearTo : ℕ → (ℕ → Bool) → ℕ → Type 0
-ClearTo n f w = (c : ℕ) → c < 64 * w → mark n f c ≡ false
 
 module _ (n : ℕ) (f : ℕ → Bool) where
   pub clear-none : ClearTo n f 0

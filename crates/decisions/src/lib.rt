@@ -1,16 +1,18 @@
 // Which grants count, the words of sound coalitions, and the answers to acts-for and flows-to questions (document 01).
 ghost use mathlib.Core.Path.{_≡_};
-ghost use Prim.Native.Nat.{ℕ, _≤_};
+ghost use mathlib.Core.Bool.{Bool};
+ghost use Prim.Native.Nat.{ℕ, _*_, _^_, _≤_, _<_};
 ghost use lib.ListN.{length};
 ghost use Rattle.model.specs.Bytes.{accepted};
 ghost use Rattle.model.specs.Terms.{Term, readTerm};
 ghost use Rattle.model.specs.Grants.{Grant, Marks, actsStatically, counts};
 ghost use Rattle.model.specs.Ledgers.{Ledger, pBytes, qBytes};
-ghost use Rattle.model.specs.Questions.{soundUnder};
-ghost use Rattle.model.specs.Extracts.{mark};
+ghost use Rattle.model.specs.Questions.{at, lowest, soundUnder};
+ghost use Rattle.model.specs.Extracts.{mark, packed};
 ghost use Rattle.model.specs.Derivations.{grantBlock};
 ghost use Rattle.words.specs.Evaluation.{wordsOf};
-ghost use Rattle.decisions.specs.Promises.{HasWords, GrantGiven, LedgerOf, countingMarks, WordsOf, keeping, soundOf};
+ghost use Rattle.decisions.specs.Promises.{ClearTo, HasWords, GrantGiven, LedgerOf, countingMarks, WordsOf, keeping, soundOf};
+ghost use Rattle.decisions.specs.Answers.{opposedOf};
 
 // All words of a term, word w at place w: they are computed once and not once a grant.
 fn fill_words(codes: &[u8], n: u64, see: &mut [u64; 64], change: &mut [u64; 64])
@@ -99,10 +101,10 @@ fn keep_all(ledger: &[u8], grants: usize, marks: u64, w: u64, of: Words) -> Word
     let mut k: usize = 0;
     while k < grants {
         if left % 2 == 1 {
-            kept = keep(ledger, k, w, kept);
             if kept.see | kept.change == 0 {
                 return kept;
             }
+            kept = keep(ledger, k, w, kept);
         }
         left /= 2;
         k += 1;
@@ -140,4 +142,52 @@ pub fn acts_statically(n: u64, p: &[u8], q: &[u8]) -> bool
         w += 1;
     }
     true
+}
+
+pub enum Side {
+    See,
+    Change,
+}
+
+// The answer to a question.
+pub enum Answer {
+    Yes,
+    // The side and the coalition that refutes.
+    No(Side, u16),
+    // The number of the refusal.
+    Refused(u8),
+}
+
+// Which question: on the see side flows-to asks the other way round.
+enum Question {
+    ActsFor,
+    FlowsTo,
+}
+
+// Word w of the coalitions of n names that refute, were they sound: those that hold p and not q, and for flows-to, on the see side, q and not p.
+fn opposed(question: Question, n: u64, p: &[u8], q: &[u8], w: u64) -> Words
+    ensures { λ r. ⌜ ((tp tq : Term) → readTerm n (now (p .entry)) ≡ accepted tp → readTerm n (now (q .entry)) ≡ accepted tq → WordsOf (opposedOf question n tp tq) w (r .see) (r .change)) ⌝ }
+{
+    let mask = words::low_mask(n, w);
+    let from = words::words_of(p, w);
+    let to = words::words_of(q, w);
+    let change = mask & (from.change & !to.change);
+    match question {
+        Question::ActsFor => Words {
+            see: mask & (from.see & !to.see),
+            change: change,
+        },
+        Question::FlowsTo => Words {
+            see: mask & (to.see & !from.see),
+            change: change,
+        },
+    }
+}
+
+// The number of the lowest coalition of word w that is set.
+fn lowest_of(w: u64, word: u64) -> u16
+    requires { ⌜ w < 64 ⌝ }
+    ensures { λ r. ⌜ ((n : ℕ) (f : ℕ → Bool) → ClearTo n f w → word ≡ packed (mark n f) (64 * w) 64 → (word ≡ 0 → ⊥) → lowest f (2 ^ n) ≡ at r) ⌝ }
+{
+    (64 * w + words::lowest(word)) as u16
 }

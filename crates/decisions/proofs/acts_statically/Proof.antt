@@ -9,7 +9,8 @@ use Rattle.model.specs.Extracts.{mark, packed}
 use Rattle.model.proofs.Bars.{barsActing, static-bars}
 use Rattle.words.specs.Evaluation.{wordsOf}
 use Rattle.words.proofs.Names.{words-few}
-use Rattle.decisions.proofs.Tests.{ClearTo, clear-none, clear-more, clear-all, clear-not, held-words, actingWord, acting-word}
+use Rattle.decisions.specs.Promises.{ClearTo}
+use Rattle.decisions.proofs.Tests.{clear-none, clear-more, clear-all, clear-not, held-words, actingWord, acting-word}
 use Rattle.decisions.proofs.acts_statically.Statement.{statement}
 use Rattle.decisions.proofs.acts_statically.Tie as tie
 use Rattle.decisions.proofs.acts_statically.Reads as reads

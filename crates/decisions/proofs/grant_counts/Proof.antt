@@ -9,8 +9,8 @@ use Rattle.model.specs.Extracts.{mark, packed}
 use Rattle.model.proofs.Bars.{barsCounting, counts-bars}
 use Rattle.words.specs.Evaluation.{wordsOf}
 use Rattle.words.proofs.Names.{words-few}
-use Rattle.decisions.specs.Promises.{GrantGiven}
-use Rattle.decisions.proofs.Tests.{ClearTo, clear-none, clear-more, clear-all, clear-not, held-words, barredWord, counting-word}
+use Rattle.decisions.specs.Promises.{ClearTo, GrantGiven}
+use Rattle.decisions.proofs.Tests.{clear-none, clear-more, clear-all, clear-not, held-words, barredWord, counting-word}
 use Rattle.decisions.proofs.grant_counts.Statement.{statement}
 use Rattle.decisions.proofs.grant_counts.Tie as tie
 use Rattle.decisions.proofs.grant_counts.Reads as reads

@@ -196,7 +196,17 @@ fn lowest_of(w: u64, word: u64) -> u16
 }
 
 // The see side from word `from` on, where no word before it has a refuter: the first one is the ground, and without one the answer is `other`.
-fn judge_see(question: Question, ledger: &[u8], n: u64, grants: usize, marks: u64, p: &[u8], q: &[u8], from: u64, other: Answer) -> Answer
+fn judge_see(
+    question: Question,
+    ledger: &[u8],
+    n: u64,
+    grants: usize,
+    marks: u64,
+    p: &[u8],
+    q: &[u8],
+    from: u64,
+    other: Answer,
+) -> Answer
     ensures { λ r. ⌜ ((l : Ledger) (L tp tq : Term) → Asked (now (ledger .entry)) n grants marks (now (p .entry)) (now (q .entry)) l L tp tq → ClearTo n (refutersOf question l L tp tq confidentiality) from → answerOf r ≡ seeFirst (lowest (refutersOf question l L tp tq confidentiality) (2 ^ n)) (answerOf other)) ⌝ }
 {
     let words = words::word_count(n);
@@ -218,7 +228,15 @@ fn judge_see(question: Question, ledger: &[u8], n: u64, grants: usize, marks: u6
 
 // Yes, or the ground of the no: the first refuter on the see side, else the first on the change side, which is kept while the see side is
 // searched to its end.
-fn judge(question: Question, ledger: &[u8], n: u64, grants: usize, marks: u64, p: &[u8], q: &[u8]) -> Answer
+fn judge(
+    question: Question,
+    ledger: &[u8],
+    n: u64,
+    grants: usize,
+    marks: u64,
+    p: &[u8],
+    q: &[u8],
+) -> Answer
     ensures { λ r. ⌜ ((l : Ledger) (L tp tq : Term) → Asked (now (ledger .entry)) n grants marks (now (p .entry)) (now (q .entry)) l L tp tq → answerOf r ≡ questionOf question l L tp tq) ⌝ }
 {
     let words = words::word_count(n);

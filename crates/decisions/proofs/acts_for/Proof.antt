@@ -1,3 +1,5 @@
+-- `decisions::acts_for` meets its contract. Assumes nothing.
+use Rattle.model.specs.Questions.{actsFor}
 use borrow.Author.Needs.{needs}
 use Rattle.decisions.proofs.acts_for.Statement.{statement}
 use Rattle.decisions.proofs.acts_for.Tie as tie
@@ -11,7 +13,8 @@ ask-requires c κs = search needs
 
 -- src/lib.rt:266:1
 returns : tie.Need-returns
-returns c = ?
+unfolding actsFor
+returns c = c .ask .ensures
 
 pub acts-for-spec : {M : Type 1} → statement M
 acts-for-spec = tie.close (tie.spec ask-requires returns)

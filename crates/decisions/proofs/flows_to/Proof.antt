@@ -1,3 +1,5 @@
+-- `decisions::flows_to` meets its contract. Assumes nothing.
+use Rattle.model.specs.Questions.{flowsTo}
 use borrow.Author.Needs.{needs}
 use Rattle.decisions.proofs.flows_to.Statement.{statement}
 use Rattle.decisions.proofs.flows_to.Tie as tie
@@ -11,7 +13,8 @@ ask-requires c κs = search needs
 
 -- src/lib.rt:273:1
 returns : tie.Need-returns
-returns c = ?
+unfolding flowsTo
+returns c = c .ask .ensures
 
 pub flows-to-spec : {M : Type 1} → statement M
 flows-to-spec = tie.close (tie.spec ask-requires returns)

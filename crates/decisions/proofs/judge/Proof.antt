@@ -111,8 +111,7 @@ loop-again c =
     let e = c .before .before in
     let k = e .before .before in
     let o = k .before .before .before in
-    let a = o .before .before .before .before .before .args in
-    (
+    let a = o .before .before .before .before .before .args in (
       o .loop .inv .0,
       omega arith,
       λ l L tp tq h. clear-both (a .n) (refutersOf (a .question) l L tp tq) (o .loop .w) _ _ (words k l L tp tq h) (o .loop .inv .2 l L tp tq h) (e .if1 .left) (c .if2 .left),

@@ -217,9 +217,9 @@ fn judge_see(
             see: both.see,
             change: 0,
         };
-        let against = keep_all(ledger, grants, marks, w, seen);
-        if against.see != 0 {
-            return Answer::No(Side::See, lowest_of(w, against.see));
+        let left = keep_all(ledger, grants, marks, w, seen);
+        if left.see != 0 {
+            return Answer::No(Side::See, lowest_of(w, left.see));
         }
         w += 1;
     }

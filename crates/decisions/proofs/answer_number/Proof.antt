@@ -4,73 +4,55 @@ use Rattle.model.specs.Answers.{number}
 use borrow.Author.Needs.{needs}
 use Rattle.decisions.proofs.answer_number.Statement.{statement}
 use Rattle.decisions.proofs.answer_number.Tie as tie
-use Rattle.decisions.proofs.answer_number.Reads as reads
-use Rattle.decisions.proofs.answer_number.Lts as lts
 
--- src/lib.rt:284:24
 enum-told : tie.Need-enum-told
 enum-told c = search needs
 
--- src/lib.rt:285:20
 enum-known-answer : tie.Need-enum-known-answer
 enum-known-answer c = search needs
 
--- src/lib.rt:286:34
 enum-told-2 : tie.Need-enum-told-2
 enum-told-2 c = search needs
 
--- src/lib.rt:286:34
 cast-result : tie.Need-cast-result
 cast-result c = search needs
 
--- src/lib.rt:286:26
 add-result : tie.Need-add-result
 add-result c = search needs
 
--- src/lib.rt:287:29
 enum-told-3 : tie.Need-enum-told-3
 enum-told-3 c = search needs
 
--- src/lib.rt:287:29
 add-result-2 : tie.Need-add-result-2
 add-result-2 c = search needs
 
--- src/lib.rt:287:44
 cast-result-2 : tie.Need-cast-result-2
 cast-result-2 c = search needs
 
--- src/lib.rt:287:29
 add-result-3 : tie.Need-add-result-3
 add-result-3 c = search needs
 
--- src/lib.rt:289:25
 enum-known-answer-2 : tie.Need-enum-known-answer-2
 enum-known-answer-2 c = search needs
 
--- src/lib.rt:289:46
 cast-result-3 : tie.Need-cast-result-3
 cast-result-3 c = search needs
 
--- src/lib.rt:289:37
 add-result-4 : tie.Need-add-result-4
 add-result-4 c = search needs
 
--- src/lib.rt:280:1
 returns : tie.Need-returns
 unfolding number
 returns c = rw (c .enum-told .given .1)
 
--- src/lib.rt:280:1
 returns-2 : tie.Need-returns-2
 unfolding number
 returns-2 c = rw (c .before .before .before .answer .given .1) (rw (c .enum-told2 .given .1) (omega arith))
 
--- src/lib.rt:280:1
 returns-3 : tie.Need-returns-3
 unfolding number
 returns-3 c = rw (c .before .before .before .answer .given .1) (rw (c .enum-told3 .given .1) (omega arith))
 
--- src/lib.rt:280:1
 returns-4 : tie.Need-returns-4
 unfolding number
 returns-4 c = rw (c .before .answer2 .given .1) (omega arith)

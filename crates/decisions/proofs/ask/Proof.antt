@@ -8,14 +8,6 @@ use Rattle.decisions.proofs.Asking.{ledger-of, ledger-refused, term-ref
 use borrow.Author.Needs.{needs}
 use Rattle.decisions.proofs.ask.Statement.{statement}
 use Rattle.decisions.proofs.ask.Tie as tie
-use Rattle.decisions.proofs.ask.Reads as reads
-use Rattle.decisions.proofs.ask.Lts as lts
-use Rattle.decisions.proofs.counting.Reads as counting-reads
-use Rattle.decisions.proofs.judge.Reads as judge-reads
-use Rattle.ledgers.proofs.ledger_refusal.Reads as ledger-refusal-reads
-use Rattle.ledgers.proofs.read_ledger.Reads as read-ledger-reads
-use Rattle.terms.proofs.read_term.Reads as read-term-reads
-use Rattle.terms.proofs.term_refusal.Reads as term-refusal-reads
 
 -- the ledger, p, q and the label, where they were accepted
 book : (c : tie.After-known-told) → AcceptedLedger (c .before .before .before .before .before .before .before .before .args .ledger .now) (c .before .book .given .0 .0) (c .before .book .given .0 .1 .0)
@@ -30,72 +22,57 @@ second c = accepted-term _ _ (sym (c .before .before .read-term2 .ensures) ∙ c
 third : (c : tie.After-enum-told6) → let b = c .before .before .before .before .before .before .before .before .before in AcceptedTerm (b .before .book .given .0 .0) (b .before .before .before .before .before .before .before .before .args .label .now)
 third c = accepted-term _ _ (sym (c .before .before .read-term3 .ensures) ∙ c .enum-told6 .given .1)
 
--- src/lib.rt:245:9
 read-ledger-requires : tie.Need-read-ledger-requires
 read-ledger-requires c κs = search needs
 
--- src/lib.rt:246:35
 enum-known-book : tie.Need-enum-known-book
 enum-known-book c = search needs
 
--- src/lib.rt:247:32
 enum-told : tie.Need-enum-told
 enum-told c = search needs
 
--- src/lib.rt:247:32
 ledger-refusal-requires : tie.Need-ledger-refusal-requires
 ledger-refusal-requires c κs = search needs
 
--- src/lib.rt:247:9
 returns : tie.Need-returns
 returns c = ask-ledger _ _ _ _ _ _ (ledger-refused _ _ _ _ (c .before .before .before .read-ledger .ensures) (c .before .enum-told .given .1) (c .ledger-refusal .ensures))
 
--- src/lib.rt:249:9
 read-term-requires : tie.Need-read-term-requires
 read-term-requires c κs = search needs
 
 enum-told-2 : tie.Need-enum-told-2
 enum-told-2 c = search needs
 
--- src/lib.rt:251:37
 enum-told-3 : tie.Need-enum-told-3
 enum-told-3 c = search needs
 
--- src/lib.rt:251:37
 term-refusal-requires : tie.Need-term-refusal-requires
 term-refusal-requires c κs = search needs
 
--- src/lib.rt:251:32
 add-t15 : tie.Need-add-t15
 add-t15 c = omega (arith, refusal-small _ _ _ _ (c .before .before .before .read-term .ensures) (c .term-refusal .ensures))
 
--- src/lib.rt:251:9
 returns-2 : tie.Need-returns-2
 returns-2 c =
     let l = book (c .before .before .before .before) in
     ask-p _ _ _ _ _ (l .ledger) _ (l .is) (l .names) _
     (term-refused _ _ _ _ (c .before .before .before .read-term .ensures) (c .term-refusal .ensures) _ (c .before .enum-told3 .given .1))
 
--- src/lib.rt:253:9
 read-term-requires-2 : tie.Need-read-term-requires-2
 read-term-requires-2 c κs = search needs
 
 enum-told-4 : tie.Need-enum-told-4
 enum-told-4 c = search needs
 
--- src/lib.rt:255:37
 enum-told-5 : tie.Need-enum-told-5
 enum-told-5 c = search needs
 
--- src/lib.rt:255:37
 term-refusal-requires-2 : tie.Need-term-refusal-requires-2
 term-refusal-requires-2 c κs = search needs
 
--- src/lib.rt:255:32
 add-t17 : tie.Need-add-t17
 add-t17 c = omega (arith, refusal-small _ _ _ _ (c .before .before .before .read-term2 .ensures) (c .term-refusal2 .ensures))
 
--- src/lib.rt:255:9
 returns-3 : tie.Need-returns-3
 returns-3 c =
     let p = c .before .before .before .before in
@@ -104,26 +81,21 @@ returns-3 c =
     ask-q _ _ _ _ _ (l .ledger) _ (l .is) (l .names) (tp .term) (tp .is) _
     (term-refused _ _ _ _ (c .before .before .before .read-term2 .ensures) (c .term-refusal2 .ensures) _ (c .before .enum-told5 .given .1))
 
--- src/lib.rt:257:9
 read-term-requires-3 : tie.Need-read-term-requires-3
 read-term-requires-3 c κs = search needs
 
 enum-told-6 : tie.Need-enum-told-6
 enum-told-6 c = search needs
 
--- src/lib.rt:259:37
 enum-told-7 : tie.Need-enum-told-7
 enum-told-7 c = search needs
 
--- src/lib.rt:259:37
 term-refusal-requires-3 : tie.Need-term-refusal-requires-3
 term-refusal-requires-3 c κs = search needs
 
--- src/lib.rt:259:32
 add-t19 : tie.Need-add-t19
 add-t19 c = omega (arith, refusal-small _ _ _ _ (c .before .before .before .read-term3 .ensures) (c .term-refusal3 .ensures))
 
--- src/lib.rt:259:9
 returns-4 : tie.Need-returns-4
 returns-4 c =
     let q = c .before .before .before .before in
@@ -134,15 +106,12 @@ returns-4 c =
     ask-label _ _ _ _ _ (l .ledger) _ (l .is) (l .names) (tp .term) (tp .is) (tq .term) (tq .is) _
     (term-refused _ _ _ _ (c .before .before .before .read-term3 .ensures) (c .term-refusal3 .ensures) _ (c .before .enum-told7 .given .1))
 
--- src/lib.rt:261:9
 counting-requires : tie.Need-counting-requires
 counting-requires c κs = search needs
 
--- src/lib.rt:262:5
 judge-requires : tie.Need-judge-requires
 judge-requires c κs = search needs
 
--- src/lib.rt:242:1
 returns-5 : tie.Need-returns-5
 returns-5 c =
     let d = c .before .before in

@@ -3,15 +3,10 @@ use Rattle.model.specs.Questions.{flowsTo}
 use borrow.Author.Needs.{needs}
 use Rattle.decisions.proofs.flows_to.Statement.{statement}
 use Rattle.decisions.proofs.flows_to.Tie as tie
-use Rattle.decisions.proofs.flows_to.Reads as reads
-use Rattle.decisions.proofs.flows_to.Lts as lts
-use Rattle.decisions.proofs.ask.Reads as ask-reads
 
--- src/lib.rt:276:5
 ask-requires : tie.Need-ask-requires
 ask-requires c κs = search needs
 
--- src/lib.rt:273:1
 returns : tie.Need-returns
 unfolding flowsTo
 returns c = c .ask .ensures

@@ -16,13 +16,6 @@ use Rattle.decisions.proofs.Tests.{clear-none, clear-more}
 use Rattle.decisions.proofs.Refuting.{refuter-words, clear-both, answer-see, answer-change, answer-yes, clear-lowest}
 use Rattle.decisions.proofs.judge.Statement.{statement}
 use Rattle.decisions.proofs.judge.Tie as tie
-use Rattle.decisions.proofs.judge.Reads as reads
-use Rattle.decisions.proofs.judge.Lts as lts
-use Rattle.decisions.proofs.judge_see.Reads as judge-see-reads
-use Rattle.decisions.proofs.keep_all.Reads as keep-all-reads
-use Rattle.decisions.proofs.lowest_of.Reads as lowest-of-reads
-use Rattle.decisions.proofs.opposed.Reads as opposed-reads
-use Rattle.words.proofs.word_count.Reads as word-count-reads
 
 abbrev Inv-loop : tie.InvT-loop
 Inv-loop question ledger n grants marks p q words w₀ w = (words ≡ wordsOf n) × (w ≤ words) × ((l : Ledger) (L tp tq : Term) → Asked ledger n grants marks p q l L tp tq
@@ -41,27 +34,21 @@ words c l L tp tq h =
     refuter-words (a .question) (a .n) l L tp tq (o .loop .w) _ _
     (c .keep-all .ensures (a .n) l L (opposedOf (a .question) (a .n) tp tq) (h .ledger-read) (h .counted) (c .before .opposed .ensures tp tq (h .p-read) (h .q-read)))
 
--- src/lib.rt:224:9
 word-count-requires : tie.Need-word-count-requires Inv-loop μ-loop
 word-count-requires c κs = tt
 
--- src/lib.rt:226:5
 loop-holds : tie.Need-loop-holds Inv-loop μ-loop
 loop-holds c = (c .word-count .ensures, omega arith, λ l L tp tq h s. clear-none _ (refutersOf (c .before .before .before .before .args .question) l L tp tq s))
 
--- src/lib.rt:227:13
 opposed-requires : tie.Need-opposed-requires Inv-loop μ-loop
 opposed-requires c κs = tt
 
--- src/lib.rt:228:13
 keep-all-requires : tie.Need-keep-all-requires Inv-loop μ-loop
 keep-all-requires c κs = tt
 
--- src/lib.rt:230:42
 lowest-of-requires : tie.Need-lowest-of-requires Inv-loop μ-loop
 lowest-of-requires c κs = omega (arith, words-few (c .before .before .before .before .before .before .before .before .before .before .args .n))
 
--- src/lib.rt:230:13
 returns : tie.Need-returns Inv-loop μ-loop
 returns c l L tp tq h =
     let k = c .before .before .before in
@@ -70,19 +57,15 @@ returns c l L tp tq h =
     answer-see (a .question) (a .n) l L tp tq _ (h .ledger-read .names)
     (c .lowest-of .ensures (a .n) (refutersOf (a .question) l L tp tq confidentiality) (o .loop .inv .2 l L tp tq h confidentiality) (words k l L tp tq h .see-word) (c .before .if1 .taken))
 
--- src/lib.rt:233:51
 lowest-of-requires-2 : tie.Need-lowest-of-requires-2 Inv-loop μ-loop
 lowest-of-requires-2 c κs = omega (arith, words-few (c .before .before .before .before .before .before .before .before .before .before .before .before .args .n))
 
--- src/lib.rt:234:72
 add-judge-see : tie.Need-add-judge-see Inv-loop μ-loop
 add-judge-see c = omega (arith, words-few (c .before .before .before .before .before .before .before .before .before .before .before .before .before .args .n))
 
--- src/lib.rt:234:13
 judge-see-requires : tie.Need-judge-see-requires Inv-loop μ-loop
 judge-see-requires c κs = tt
 
--- src/lib.rt:234:13
 returns-2 : tie.Need-returns-2 Inv-loop μ-loop
 returns-2 c l L tp tq h =
     let d = c .before in
@@ -97,15 +80,12 @@ returns-2 c l L tp tq h =
     (d .lowest-of2 .ensures (a .n) (R integrity) (clear integrity) (v .change-word) (d .before .if2 .taken))
     (c .judge-see .ensures l L tp tq h (clear-more (a .n) (R confidentiality) (o .loop .w) _ (v .see-word) (clear confidentiality) (e .if1 .left)))
 
--- src/lib.rt:236:9
 add-w : tie.Need-add-w Inv-loop μ-loop
 add-w c = omega (arith, words-few (c .before .before .before .before .before .before .before .before .before .before .before .before .args .n))
 
--- src/lib.rt:226:5
 loop-less : tie.Need-loop-less Inv-loop μ-loop
 loop-less c = omega arith
 
--- src/lib.rt:226:5
 loop-again : tie.Need-loop-again Inv-loop μ-loop
 loop-again c =
     let e = c .before .before in
@@ -117,7 +97,6 @@ loop-again c =
       λ l L tp tq h. clear-both (a .n) (refutersOf (a .question) l L tp tq) (o .loop .w) _ _ (words k l L tp tq h) (o .loop .inv .2 l L tp tq h) (e .if1 .left) (c .if2 .left),
     )
 
--- src/lib.rt:221:1
 returns-3 : tie.Need-returns-3 Inv-loop μ-loop
 returns-3 c l L tp tq h =
     let o = c .before in

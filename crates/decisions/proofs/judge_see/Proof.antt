@@ -16,12 +16,6 @@ use Rattle.decisions.proofs.Tests.{clear-more}
 use Rattle.decisions.proofs.Refuting.{seeOnly, see-words, refuter-word, clear-lowest}
 use Rattle.decisions.proofs.judge_see.Statement.{statement}
 use Rattle.decisions.proofs.judge_see.Tie as tie
-use Rattle.decisions.proofs.judge_see.Reads as reads
-use Rattle.decisions.proofs.judge_see.Lts as lts
-use Rattle.decisions.proofs.keep_all.Reads as keep-all-reads
-use Rattle.decisions.proofs.lowest_of.Reads as lowest-of-reads
-use Rattle.decisions.proofs.opposed.Reads as opposed-reads
-use Rattle.words.proofs.word_count.Reads as word-count-reads
 
 abbrev Inv-loop : tie.InvT-loop
 Inv-loop question ledger n grants marks p q from other words w₀ w = (words ≡ wordsOf n) × ((l : Ledger) (L tp tq : Term) → Asked ledger n grants marks p q l L tp tq
@@ -41,27 +35,21 @@ word c l L tp tq h =
     (c .keep-all .ensures (a .n) l L (seeOnly (opposedOf (a .question) (a .n) tp tq)) (h .ledger-read) (h .counted)
     (see-words (opposedOf (a .question) (a .n) tp tq) (o .loop .w) _ _ (c .before .opposed .ensures tp tq (h .p-read) (h .q-read))) .see-word)
 
--- src/lib.rt:202:9
 word-count-requires : tie.Need-word-count-requires Inv-loop μ-loop
 word-count-requires c κs = tt
 
--- src/lib.rt:204:5
 loop-holds : tie.Need-loop-holds Inv-loop μ-loop
 loop-holds c = (c .word-count .ensures, λ l L tp tq h clear. clear)
 
--- src/lib.rt:205:13
 opposed-requires : tie.Need-opposed-requires Inv-loop μ-loop
 opposed-requires c κs = tt
 
--- src/lib.rt:210:13
 keep-all-requires : tie.Need-keep-all-requires Inv-loop μ-loop
 keep-all-requires c κs = tt
 
--- src/lib.rt:212:42
 lowest-of-requires : tie.Need-lowest-of-requires Inv-loop μ-loop
 lowest-of-requires c κs = omega (arith, words-few (c .before .before .before .before .before .before .before .before .before .before .args .n))
 
--- src/lib.rt:212:13
 returns : tie.Need-returns Inv-loop μ-loop
 returns c l L tp tq h clear =
     let k = c .before .before .before in
@@ -70,15 +58,12 @@ returns c l L tp tq h clear =
     ap (λ (x : Lowest). seeFirst x (answerOf (a .other)))
     (sym (c .lowest-of .ensures (a .n) (refutersOf (a .question) l L tp tq confidentiality) (o .loop .inv .1 l L tp tq h clear) (word k l L tp tq h) (c .before .if1 .taken)))
 
--- src/lib.rt:214:9
 add-w : tie.Need-add-w Inv-loop μ-loop
 add-w c = omega (arith, words-few (c .before .before .before .before .before .before .before .before .before .before .args .n))
 
--- src/lib.rt:204:5
 loop-less : tie.Need-loop-less Inv-loop μ-loop
 loop-less c = omega arith
 
--- src/lib.rt:204:5
 loop-again : tie.Need-loop-again Inv-loop μ-loop
 loop-again c =
     let k = c .before .before in
@@ -86,7 +71,6 @@ loop-again c =
     let a = o .before .before .before .before .before .args in
     (o .loop .inv .0, λ l L tp tq h clear. clear-more (a .n) (refutersOf (a .question) l L tp tq confidentiality) (o .loop .w) _ (word k l L tp tq h) (o .loop .inv .1 l L tp tq h clear) (c .if1 .left))
 
--- src/lib.rt:199:1
 returns-2 : tie.Need-returns-2 Inv-loop μ-loop
 returns-2 c l L tp tq h clear =
     let o = c .before in

@@ -3,3 +3,5 @@ pub mod Tests
 pub mod Filled
 pub mod Marks
 pub mod Keeping
+pub mod Refuting
+pub mod Asking

@@ -20,6 +20,7 @@ use Rattle.words.specs.Evaluation.{heldWord, coalitionWord, wordsOf, HeldAt, Ev
 use Rattle.words.proofs.Packing.{packed-and, packed-or, packed-not, packed-lowest}
 use Rattle.words.proofs.Names.{words-enough}
 use Rattle.words.proofs.Searches.{packed-mark, none-more}
+use Rattle.decisions.specs.Promises.{ClearTo}
 
 -- the words of an accepted term
 pub held-words : (n : ℕ) (bytes : List ℕ) (t : Term) (w see change next : ℕ) → EvaluatedWhole bytes w see change next → readTerm n bytes ≡ accepted t → HeldAt t 0 w see change next
@@ -30,10 +31,6 @@ held-words n bytes t w see change next e r =
 -- `a & !b`
 pub packed-lacks : (f g : ℕ → Bool) (i : ℕ) → bitAnd (packed f i 64) (0xFFFF_FFFF_FFFF_FFFF - packed g i 64) ≡ packed (lacks f g) i 64
 packed-lacks f g i = ap (bitAnd (packed f i 64)) (packed-not g i 64) ∙ packed-and f (λ c. not (g c)) i 64
-
--- f holds at no coalition of the words before w
-abbrev pub ClearTo : ℕ → (ℕ → Bool) → ℕ → Type 0
-ClearTo n f w = (c : ℕ) → c < 64 * w → mark n f c ≡ false
 
 module _ (n : ℕ) (f : ℕ → Bool) where
   pub clear-none : ClearTo n f 0
@@ -82,3 +79,19 @@ counting-word n L g w mask ls lc ds dc dn qs qc qn m a b d q =
     (rw (packed-or (lacks (see L) (see (g .label))) (lacks (change (g .label)) (change L)) i 64)
     (rw (packed-or (λ c. lacks (see L) (see (g .label)) c || lacks (change (g .label)) (change L) c) (lacks (change (g .label)) (voice (g .q) integrity)) i 64)
     (packed-mark n (barsCounting L g) w)))))
+
+-- of the coalitions of the mask, those that hold p and not q on a side
+abbrev pub actingWord : (mask ps pc qs qc : ℕ) → ℕ
+actingWord mask ps pc qs qc = bitAnd mask (bitOr (bitAnd ps (0xFFFF_FFFF_FFFF_FFFF - qs)) (bitAnd pc (0xFFFF_FFFF_FFFF_FFFF - qc)))
+
+pub acting-word : (n : ℕ) (p q : Term) (w mask ps pc pn qs qc qn : ℕ) → mask ≡ coalitionWord n w → HeldAt p 0 w ps pc pn → HeldAt q 0 w qs qc qn
+    → actingWord mask ps pc qs qc ≡ packed (mark n (barsActing p q)) (64 * w) 64
+unfolding barsActing
+acting-word n p q w mask ps pc pn qs qc qn m a b =
+    let i = 64 * w in
+    let see : Term → ℕ → Bool = λ t. held t confidentiality in
+    let change : Term → ℕ → Bool = λ t. held t integrity in
+    rw (m, a .see-word, a .change-word, b .see-word, b .change-word)
+    (rw (packed-lacks (see p) (see q) i, packed-lacks (change p) (change q) i)
+    (rw (packed-or (lacks (see p) (see q)) (lacks (change p) (change q)) i 64)
+    (packed-mark n (barsActing p q) w)))

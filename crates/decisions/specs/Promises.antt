@@ -1,6 +1,6 @@
 -- What the calls of this crate promise, on all bytes (document 01, "Grants that count"). Assumes nothing: these are definitions.
 use mathlib.Core.Path.{_≡_}
-use mathlib.Core.Bool.{_&&_}
+use mathlib.Core.Bool.{Bool, false, _&&_}
 use mathlib.Core.List.{List}
 use Prim.Native.Nat.{ℕ, _*_, _≤_, _<_}
 use lib.ListN.{length, getD}
@@ -10,9 +10,13 @@ use Rattle.model.specs.Terms.{Term, readTerm, held}
 use Rattle.model.specs.Grants.{Grant, Marks, implies, counts}
 use Rattle.model.specs.Ledgers.{Ledger, readLedger}
 use Rattle.model.specs.Questions.{soundUnder}
-use Rattle.model.specs.Extracts.{packed}
+use Rattle.model.specs.Extracts.{mark, packed}
 use Rattle.model.specs.Derivations.{ofGrant}
 use Rattle.words.specs.Evaluation.{heldWord, wordsOf}
+
+-- f holds at no coalition of n names in the words before w.
+abbrev pub ClearTo : ℕ → (ℕ → Bool) → ℕ → Type 0
+ClearTo n f w = (c : ℕ) → c < 64 * w → mark n f c ≡ false
 
 -- The first k words of a term, a list of them for each side.
 pub record HasWords (k : ℕ) (t : Term) (see change : List ℕ) : Type 0 where

@@ -12,3 +12,5 @@ pub mod Accepted
 pub mod Without
 pub mod Blocks
 pub mod Stands
+pub mod Bars
+pub mod Prefixes

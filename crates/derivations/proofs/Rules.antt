@@ -1,30 +1,24 @@
 -- The rules by their numbers: which fields they use, as ranges, and the form of a step. Assumes nothing.
-use Prim.Native.Nat.{ℕ, zero, suc, _+_, _-_, _≤_, _<_}
+use Prim.Native.Nat.{ℕ, zero, suc, _<_}
 use native.Mathlib.Omega.{arith}
 use mathlib.Core.Logic.{_⊎_, inl, inr, ⊎-elim}
-use mathlib.Core.Path.{_≡_, refl, sym, ap, _∙_}
-use mathlib.Core.Bool.{Bool, true, false, _&&_, _||_, and-assoc, and-false}
+use mathlib.Core.Path.{_≡_, refl, sym}
+use mathlib.Core.Bool.{false, _&&_, and-assoc, and-false}
 use mathlib.Core.List.{List}
-use lib.Dec.{eqb, ltb, leb}
-use borrow.Author.Tests.{eq-eqb, ne-eqb, le-leb, lt-leb}
-use Rattle.model.specs.Bytes.{byte, field, zeros}
+use lib.Dec.{eqb, leb}
+use borrow.Author.Tests.{ne-eqb, lt-leb}
 use Rattle.model.specs.Answers.{confidentiality, integrity}
 use Rattle.model.specs.Derivations.{Rule, static, granted, transitive, conjunction, disjunction, projection, noRule, ruleOf, isRule, usesOf, stepForm}
 use Rattle.derivations.specs.Steps.{fieldsForm, pastTerm, fillerForm}
 
 -- a byte that is no rule
-pub no-rule : (r : ℕ) → (r < 1) ⊎ (7 < r) → ruleOf r ≡ noRule
+pub other-rule : (r : ℕ) → (r ≡ 1 → ⊥) → (r ≡ 2 → ⊥) → (r ≡ 3 → ⊥) → (r ≡ 4 → ⊥) → (r ≡ 5 → ⊥) → (r ≡ 6 → ⊥) → (r ≡ 7 → ⊥) → ruleOf r ≡ noRule
 unfolding ruleOf
-no-rule r h =
-    simp (
-      ne-eqb r 1 (λ e. ⊎-elim (λ a. omega arith) (λ a. omega arith) h),
-      ne-eqb r 2 (λ e. ⊎-elim (λ a. omega arith) (λ a. omega arith) h),
-      ne-eqb r 3 (λ e. ⊎-elim (λ a. omega arith) (λ a. omega arith) h),
-      ne-eqb r 4 (λ e. ⊎-elim (λ a. omega arith) (λ a. omega arith) h),
-      ne-eqb r 5 (λ e. ⊎-elim (λ a. omega arith) (λ a. omega arith) h),
-      ne-eqb r 6 (λ e. ⊎-elim (λ a. omega arith) (λ a. omega arith) h),
-      ne-eqb r 7 (λ e. ⊎-elim (λ a. omega arith) (λ a. omega arith) h),
-    )
+other-rule r a b c d e f g = simp (ne-eqb r 1 a, ne-eqb r 2 b, ne-eqb r 3 c, ne-eqb r 4 d, ne-eqb r 5 e, ne-eqb r 6 f, ne-eqb r 7 g)
+
+no-rule : (r : ℕ) → (r < 1) ⊎ (7 < r) → ruleOf r ≡ noRule
+no-rule r (inl h) = other-rule r (λ e. omega arith) (λ e. omega arith) (λ e. omega arith) (λ e. omega arith) (λ e. omega arith) (λ e. omega arith) (λ e. omega arith)
+no-rule r (inr h) = other-rule r (λ e. omega arith) (λ e. omega arith) (λ e. omega arith) (λ e. omega arith) (λ e. omega arith) (λ e. omega arith) (λ e. omega arith)
 
 -- what holds of each rule with its number, and of no rule, holds of every byte
 pub rule-case : (P : ℕ → Rule → Type 0) → P 1 static → P 2 granted → P 3 transitive → P 4 conjunction → P 5 disjunction

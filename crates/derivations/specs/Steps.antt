@@ -1,12 +1,15 @@
 -- A step's tests, one group after another, as the code makes them (document 01, "Derivations" and "Refusals by operation").
 -- Assumes nothing: these are definitions.
+use mathlib.Core.Path.{_≡_}
 use Prim.Native.Nat.{ℕ, _+_, _-_}
-use mathlib.Core.Bool.{Bool, true, false, _&&_, _||_}
+use mathlib.Core.Bool.{Bool, true, not, _&&_, _||_}
 use mathlib.Core.List.{List, _∷_, _++_}
-use lib.Dec.{eqb, leb}
+use lib.Dec.{eqb, ltb, leb}
+use lib.ListN.{length}
 use Rattle.model.specs.Bytes.{byte, field, zeros, same, Reading, accepted, refused, require}
 use Rattle.model.specs.Terms.{Term, readTerm}
-use Rattle.model.specs.Derivations.{Rule, isRule, usesOf, stepForm, readLeft, readRight, isAccepted, before}
+use Rattle.model.specs.Ledgers.{Ledger, readLedger}
+use Rattle.model.specs.Derivations.{stepAt, Rule, ruleOf, isRule, usesOf, stepForm, readLeft, readRight, isAccepted, before, meets, checkStep}
 use Rattle.derivations.specs.declared.StepCheck.{StepCheck}
 use Rattle.derivations.specs.declared.StepCheck.the-variants.{Accepted, Refused}
 
@@ -43,6 +46,22 @@ premisesBefore r step k = before (usesOf r .first) (byte 1 step) k && before (us
 -- rules 4 and 5, one being the other with p and q exchanged
 abbrev pub joins : ℕ → List ℕ → List ℕ → List ℕ → List ℕ → List ℕ → List ℕ → Bool
 joins code whole first second common one other = same whole (code ∷ first ++ second) && (same one common && same other common)
+
+-- A step whose terms are read, and whose grant is there if its rule uses one: then the rule can be judged.
+pub record Ready (ledger : List ℕ) (n : ℕ) (step : List ℕ) (l : Ledger) : Type 0 where
+  pub is : readLedger ledger ≡ accepted l
+  pub names : n ≡ l .names
+  pub left-read : isAccepted (readLeft n step) ≡ true
+  pub right-read : isAccepted (readRight n step) ≡ true
+  pub grant-there : (not (usesOf (ruleOf (byte 0 step)) .grant) || ltb (byte 3 step) (length (l .grants))) ≡ true
+
+-- a step of a derivation meets its rule
+abbrev pub meetsAt : Ledger → List ℕ → List ℕ → Bool
+meetsAt l d step = meets l (ruleOf (byte 0 step)) step (stepAt d (byte 1 step)) (stepAt d (byte 2 step))
+
+-- step k of a derivation
+abbrev pub checkAt : Ledger → Term → List ℕ → ℕ → Reading (Unit {0})
+checkAt l L d k = checkStep l L d k (stepAt d k) (ruleOf (byte 0 (stepAt d k)))
 
 -- what each case of a step's check stands for
 abbrev pub stepCheck : Reading (Unit {0}) → StepCheck

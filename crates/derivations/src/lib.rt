@@ -1,17 +1,21 @@
 // The derivation check, step by step, and quoting (document 01, "Derivations").
+use ledgers::LedgerReading;
 use terms::TermReading;
 ghost use mathlib.Core.Path.{_≡_};
 ghost use mathlib.Core.Bool.{not, _&&_, _||_};
 ghost use mathlib.Core.List.{_∷_, _++_};
-ghost use Prim.Native.Nat.{_+_, _≤_, _<_};
+ghost use Prim.Native.Nat.{_+_, _*_, _≤_, _<_};
 ghost use lib.Dec.{eqb, ltb};
 ghost use lib.ListN.{length};
 ghost use Rattle.model.specs.Bytes.{byte, same};
-ghost use Rattle.model.specs.Terms.{member};
+ghost use Rattle.model.specs.Answers.{number};
+ghost use Rattle.model.specs.Terms.{Term, member};
 ghost use Rattle.model.specs.Ledgers.{Ledger};
-ghost use Rattle.model.specs.Derivations.{stepAt, left, right, transitive, ruleOf, isRule, usesOf, stepForm, before, meets};
+ghost use Rattle.model.specs.Derivations.{stepAt, left, right, transitive, conjunction, disjunction, ruleOf, isRule, usesOf, stepForm, before, meets, checkSteps, derivationLength, stepCount, checkDerivation, quote};
 ghost use Rattle.terms.specs.Readings.{termReading};
-ghost use Rattle.derivations.specs.Steps.{fieldsForm, pastTerm, fillerForm, readField, readStep, premisesBefore, joins, stepCheck};
+ghost use Rattle.decisions.specs.Promises.{LedgerOf, countingMarks};
+ghost use Rattle.derivations.specs.Steps.{fieldsForm, pastTerm, fillerForm, readField, readStep, premisesBefore, joins, Ready, meetsAt, checkAt, stepCheck, stepRefusal};
+ghost use Rattle.derivations.specs.Answers.{answerOf};
 
 // The two are the same, byte for byte.
 fn same(a: &[u8], b: &[u8]) -> bool
@@ -290,7 +294,15 @@ fn transitive(step: &[u8], a: &[u8], b: &[u8]) -> bool
 }
 
 // Rules 4 and 5: the whole is a code, then the premises' terms on that side in order; on the other side both are the common term.
-fn joins(code: u8, whole: &[u8], first: &[u8], second: &[u8], common: &[u8], one: &[u8], other: &[u8]) -> bool
+fn joins(
+    code: u8,
+    whole: &[u8],
+    first: &[u8],
+    second: &[u8],
+    common: &[u8],
+    one: &[u8],
+    other: &[u8],
+) -> bool
     ensures { λ r. ⌜ r ≡ joins code (now (whole .entry)) (now (first .entry)) (now (second .entry)) (now (common .entry)) (now (one .entry)) (now (other .entry)) ⌝ }
 {
     let parts = code_then_two(whole, code, first, second);
@@ -313,4 +325,192 @@ fn projects(code: u8, step: &[u8], a: &[u8]) -> bool
         return false;
     }
     code_then(right(step), code, right(a))
+}
+
+// Rule 4: q is 30, then the premises' right terms in order; both left terms are p.
+fn conjunction(step: &[u8], a: &[u8], b: &[u8]) -> bool
+    ensures { λ r. ⌜ ((l : Ledger) → r ≡ meets l conjunction (now (step .entry)) (now (a .entry)) (now (b .entry))) ⌝ }
+{
+    joins(
+        0x30,
+        right(step),
+        right(a),
+        right(b),
+        left(step),
+        left(a),
+        left(b),
+    )
+}
+
+// Rule 5: p is 31, then their left terms in order; both right terms are q.
+fn disjunction(step: &[u8], a: &[u8], b: &[u8]) -> bool
+    ensures { λ r. ⌜ ((l : Ledger) → r ≡ meets l disjunction (now (step .entry)) (now (a .entry)) (now (b .entry))) ⌝ }
+{
+    joins(
+        0x31,
+        left(step),
+        left(a),
+        left(b),
+        right(step),
+        right(a),
+        right(b),
+    )
+}
+
+// The step meets its rule, its terms being read and its grant being there: 67 where not.
+fn meets(derivation: &[u8], step: &[u8], ledger: &[u8], n: u64) -> bool
+    requires { ⌜ 136 ≤ length (now step) ⌝ }
+    ensures { λ r. ⌜ ((l : Ledger) → Ready (now (ledger .entry)) n (now (step .entry)) l → r ≡ meetsAt l (now (derivation .entry)) (now (step .entry))) ⌝ }
+{
+    let a = step_at(derivation, step[1] as usize);
+    let b = step_at(derivation, step[2] as usize);
+    let grant = step[3] as usize;
+    let rule = step[0];
+    match rule {
+        1 => decisions::acts_statically(n, left(step), right(step)),
+        2 => has_terms(
+            step,
+            ledgers::grant_p(ledger, grant),
+            ledgers::grant_q(ledger, grant),
+        ),
+        3 => transitive(step, a, b),
+        4 => conjunction(step, a, b),
+        5 => disjunction(step, a, b),
+        6 => projects(0x40, step, a),
+        7 => projects(0x41, step, a),
+        _ => false,
+    }
+}
+
+// Step k of the derivation: the first refusal of 61 to 67. Bit g of the marks says whether grant g counts.
+fn check_step(
+    derivation: &[u8],
+    k: usize,
+    ledger: &[u8],
+    n: u64,
+    grants: usize,
+    marks: u64,
+) -> StepCheck
+    requires { ⌜ 136 * (k + 1) ≤ length (now derivation) ⌝ }
+    ensures { λ r. ⌜ ((l : Ledger) (L : Term) → LedgerOf (now (ledger .entry)) n grants l → marks ≡ countingMarks n L l → r ≡ stepCheck (checkAt l L (now (derivation .entry)) k)) ⌝ }
+{
+    let step = step_at(derivation, k);
+    let read = read_step(step, n);
+    let StepCheck::Accepted = read else {
+        return read;
+    };
+    let earlier = premises_before(step, k);
+    if !earlier {
+        return StepCheck::Refused(64);
+    }
+    let exists = grant_exists(step, grants);
+    if !exists {
+        return StepCheck::Refused(65);
+    }
+    let counts = grant_marked(step, marks);
+    if !counts {
+        return StepCheck::Refused(66);
+    }
+    let met = meets(derivation, step, ledger, n);
+    if !met {
+        return StepCheck::Refused(67);
+    }
+    StepCheck::Accepted
+}
+
+// The number of the refusal of a step, 0 where there is none.
+fn step_refusal(check: StepCheck) -> u8
+    ensures { λ k. ⌜ k ≡ stepRefusal check ⌝ }
+{
+    match check {
+        StepCheck::Accepted => 0,
+        StepCheck::Refused(k) => k,
+    }
+}
+
+// What checking a derivation gives.
+pub enum Checked {
+    Accepted,
+    // The number of the refusal, of the ledger, the label or the derivation's length.
+    Refused(u8),
+    // The step, and the number of its refusal.
+    RefusedAt(u8, u8),
+}
+
+// Step by step.
+fn check_steps(derivation: &[u8], ledger: &[u8], n: u64, grants: usize, marks: u64) -> Checked
+    requires { ⌜ length (now derivation) ≤ 8704 ⌝ }
+    ensures { λ r. ⌜ ((l : Ledger) (L : Term) → LedgerOf (now (ledger .entry)) n grants l → marks ≡ countingMarks n L l → answerOf r ≡ checkSteps l L (now (derivation .entry)) 0 (stepCount (now (derivation .entry)))) ⌝ }
+{
+    let steps = derivation.len() / 136;
+    let mut k: usize = 0;
+    while k < steps {
+        let check = check_step(derivation, k, ledger, n, grants, marks);
+        let StepCheck::Accepted = check else {
+            return Checked::RefusedAt(k as u8, step_refusal(check));
+        };
+        k += 1;
+    }
+    Checked::Accepted
+}
+
+// A multiple of 136 from 136 to 8,704: 1 to 64 steps.
+fn length_fits(len: usize) -> bool
+    ensures { λ r. ⌜ r ≡ derivationLength len ⌝ }
+{
+    if len % 136 != 0 {
+        return false;
+    }
+    136 <= len && len <= 8704
+}
+
+// Checks a derivation. The grants that count are judged once.
+pub fn check_derivation(derivation: &[u8], ledger: &[u8], label: &[u8]) -> Checked
+    ensures { λ r. ⌜ answerOf r ≡ checkDerivation (now (derivation .entry)) (now (ledger .entry)) (now (label .entry)) ⌝ }
+{
+    let reading = ledgers::read_ledger(ledger);
+    let LedgerReading::Accepted { names: n, grants } = reading else {
+        return Checked::Refused(ledgers::ledger_refusal(reading));
+    };
+    let term = terms::read_term(label, n);
+    let TermReading::Accepted = term else {
+        return Checked::Refused(40 + terms::term_refusal(term));
+    };
+    let fits = length_fits(derivation.len());
+    if !fits {
+        return Checked::Refused(60);
+    }
+    let marks = decisions::counting(ledger, n, grants, label);
+    check_steps(derivation, ledger, n, grants, marks)
+}
+
+// The block of the grant that a step of an accepted derivation names, a part of the ledger; an empty part for any refusal, a step past
+// the end, or a rule other than 2.
+pub fn quote<'a, 'b>(derivation: &'b [u8], ledger: &'a [u8], label: &'b [u8], step: u64) -> &'a [u8]
+    ensures { λ r. ⌜ now r ≡ quote (now (derivation .entry)) (now (ledger .entry)) (now (label .entry)) step ⌝ }
+{
+    let checked = check_derivation(derivation, ledger, label);
+    let Checked::Accepted = checked else {
+        return &ledger[..0];
+    };
+    let steps = derivation.len() / 136;
+    if steps as u64 <= step {
+        return &ledger[..0];
+    }
+    let quoted = step_at(derivation, step as usize);
+    if quoted[0] != 2 {
+        return &ledger[..0];
+    }
+    ledgers::grant_block(ledger, quoted[3] as usize)
+}
+
+// The one number that the answer is to C.
+pub fn checked_number(checked: Checked) -> u32
+    ensures { λ r. ⌜ r ≡ number (answerOf checked) ⌝ }
+{
+    match checked {
+        Checked::Accepted => 0,
+        Checked::Refused(r) => 2 * 65536 + r as u32,
+        Checked::RefusedAt(step, r) => 2 * 65536 + (step as u32 * 256 + r as u32),
+    }
 }

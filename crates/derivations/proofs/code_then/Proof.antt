@@ -1,6 +1,6 @@
 -- `derivations::code_then` meets its contract, by the test on the code and what `same` ensures of the rest. Assumes nothing.
 use native.Mathlib.Omega.{arith}
-use mathlib.Core.Path.{sym, _∙_}
+use mathlib.Core.Path.{sym}
 use borrow.Author.Tests.{eq-eqb, ne-eqb}
 use Rattle.derivations.proofs.Comparing.{code-none, code-first}
 use borrow.Author.Needs.{needs}

@@ -1,8 +1,7 @@
 -- `derivations::fields_form` meets its contract: one field after another. Assumes nothing.
-use mathlib.Core.Path.{_≡_, sym, ap, _∙_}
+use mathlib.Core.Path.{_≡_, sym, _∙_}
 use mathlib.Core.Bool.{Bool, _||_, and-false}
 use lib.Dec.{eqb}
-use lib.ListN.{getD}
 use borrow.Author.Tests.{not-true, not-false}
 use Rattle.model.specs.Bytes.{byte}
 use Rattle.model.specs.Derivations.{ruleOf, isRule, usesOf}
@@ -68,7 +67,7 @@ used-or-zero-requires-3 c κs = search needs
 
 returns-4 : tie.Need-returns-4
 unfolding fieldsForm
-returns-4 c = 
+returns-4 c =
     let two = c .before .before .before in
     let one = two .before .before .before .before in
     let rule = one .before .before .before .before in

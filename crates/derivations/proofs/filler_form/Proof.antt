@@ -35,7 +35,7 @@ past-term-requires-2 c κs = search needs
 
 returns-3 : tie.Need-returns-3
 unfolding fillerForm
-returns-3 c = 
+returns-3 c =
     let p = c .before in
     let unused = p .before .before in
     simp (

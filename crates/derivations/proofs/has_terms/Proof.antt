@@ -27,7 +27,7 @@ same-requires-2 : tie.Need-same-requires-2
 same-requires-2 c κs = search needs
 
 returns-2 : tie.Need-returns-2
-returns-2 c = 
+returns-2 c =
     let p = c .before .before in
     simp (p-same (p .before) _ (not-false (p .before .same .result) (p .if1 .left))) (rw (c .before .right .ensures) at (c .same2 .ensures))
 

@@ -17,7 +17,7 @@ cast-len c = omega (arith, c .shared-slice-known2 .given (c .before .before .arg
 
 returns : tie.Need-returns
 unfolding pastTerm zeros
-returns c = 
+returns c =
     let a = c .before .before .before .args in
     let none : 64 - getD (a .step .now) (a .k) 0 ≡ 0 = omega arith in
     rw none
@@ -42,7 +42,7 @@ filler-requires c κs = search needs
 
 returns-2 : tie.Need-returns-2
 unfolding pastTerm
-returns-2 c = 
+returns-2 c =
     let a = c .before .before .before .before .before .args in
     let len = getD (a .step .now) (a .k) 0 in
     let rest : a .at + 64 - (a .at + len) ≡ 64 - len = omega arith in

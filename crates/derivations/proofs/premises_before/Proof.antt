@@ -36,7 +36,7 @@ earlier-requires-2 : tie.Need-earlier-requires-2
 earlier-requires-2 c κs = search needs
 
 returns-2 : tie.Need-returns-2
-returns-2 c = 
+returns-2 c =
     let one = c .before .before .before in
     simp (first (one .before) _ (not-false (one .before .earlier .result) (one .if1 .left))) (rw (c .before .before .uses-second .ensures) at (c .earlier2 .ensures))
 

@@ -34,7 +34,7 @@ code-then-requires-2 : tie.Need-code-then-requires-2
 code-then-requires-2 c κs = search needs
 
 returns-2 : tie.Need-returns-2
-returns-2 c = 
+returns-2 c =
     let p = c .before .before .before in
     simp (p-same (p .before) _ (not-false (p .before .code-then .result) (p .if1 .left))) (rw (c .before .before .right .ensures, c .before .right2 .ensures) at (c .code-then2 .ensures))
 

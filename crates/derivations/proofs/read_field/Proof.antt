@@ -1,8 +1,5 @@
 -- `derivations::read_field` meets its contract, by the test on the length and what the calls ensure. Assumes nothing.
-use mathlib.Core.Path.{_≡_, ap, _∙_}
 use borrow.Author.Tests.{le-leb, lt-leb}
-use Rattle.model.specs.Terms.{readTerm}
-use Rattle.terms.specs.Readings.{termReading}
 use Rattle.derivations.specs.Steps.{readField}
 use borrow.Author.Needs.{needs}
 use Rattle.derivations.proofs.read_field.Statement.{statement}

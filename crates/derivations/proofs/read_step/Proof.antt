@@ -38,7 +38,7 @@ enum-told-2 c = search needs
 
 returns-2 : tie.Need-returns-2
 unfolding readStep
-returns-2 c = 
+returns-2 c =
     let p = c .before .before in
     let f = p .before in
     simp (form (f .before) _ (not-false (f .before .step-form .result) (f .if1 .left)), p-told p _ (c .enum-told2 .given .1))
@@ -54,7 +54,7 @@ enum-told-4 c = search needs
 
 returns-3 : tie.Need-returns-3
 unfolding readStep
-returns-3 c = 
+returns-3 c =
     let q = c .before .before in
     let p = q .before .before .before in
     let f = p .before in
@@ -62,7 +62,7 @@ returns-3 c =
 
 returns-4 : tie.Need-returns-4
 unfolding readStep
-returns-4 c = 
+returns-4 c =
     let q = c .before .before in
     let p = q .before .before .before in
     let f = p .before in

@@ -61,7 +61,7 @@ fn all_checks(ledger: &[u8]) -> bool
 }
 
 // All bytes of the part are 00. No branch for a byte: what is not 0 stays in `any`.
-fn filler(part: &[u8]) -> bool
+pub fn filler(part: &[u8]) -> bool
     ensures { λ r. ⌜ r ≡ zeros (now (part .entry)) ⌝ }
 {
     let mut any: u8 = 0;
@@ -253,7 +253,7 @@ pub fn ledger_refusal(reading: LedgerReading) -> u8
 }
 
 // The bytes that start at `at`, as many as `len` or as there are.
-fn part(bytes: &[u8], at: usize, len: usize) -> &[u8]
+pub fn part(bytes: &[u8], at: usize, len: usize) -> &[u8]
     ensures { λ r. ⌜ now r ≡ field at len (now (bytes .entry)) ⌝ }
 {
     if bytes.len() <= at {
@@ -276,7 +276,7 @@ pub fn grant_block(ledger: &[u8], k: usize) -> &[u8]
 }
 
 // The part of a grant's block whose length is byte k and that begins at `at`.
-fn term_part(block: &[u8], k: usize, at: usize) -> &[u8]
+pub fn term_part(block: &[u8], k: usize, at: usize) -> &[u8]
     ensures { λ r. ⌜ now r ≡ field at (byte k (now (block .entry))) (now (block .entry)) ⌝ }
 {
     if block.len() <= k {

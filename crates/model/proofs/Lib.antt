@@ -10,3 +10,5 @@ pub mod Table
 pub mod Same
 pub mod Accepted
 pub mod Without
+pub mod Monotone
+pub mod Listed

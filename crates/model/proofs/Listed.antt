@@ -51,14 +51,12 @@ unfolding pairs
 length-pairs [] = refl
 length-pairs (x ∷ l) = omega (arith, length-pairs l)
 
--- a side's list of n names takes 2 bytes, and 2 for each coalition at most
-pub length-listed : (n : ℕ) (f : ℕ → Bool) → length (listed n f) ≤ 2 + 2 * 2 ^ n
-unfolding listed
-length-listed n f =
-    omega (arith, length-pairs (those (minimal n f) 0 (2 ^ n)), length-those (minimal n f) 0 (2 ^ n))
+-- a count and as many numbers as it says
+pub length-counted : (f : ℕ → Bool) (k : ℕ) → length (bigEndian (length (those f 0 k)) ++ pairs (those f 0 k)) ≤ 2 + 2 * k
+length-counted f k = omega (arith, length-pairs (those f 0 k), length-those f 0 k)
 
 -- the 16,388 bytes that document 01 asks of a buffer are enough
 pub length-short : (n : ℕ) (f : Marks) → n ≤ 12 → length (shortForm n f) ≤ 16388
-unfolding shortForm
+unfolding shortForm listed
 length-short n f h =
-    rw length-append (omega (arith, length-listed n (f confidentiality), length-listed n (f integrity), pow-mono h))
+    rw length-append (omega (arith, length-counted (minimal n (f confidentiality)) (2 ^ n), length-counted (minimal n (f integrity)) (2 ^ n), pow-mono h))

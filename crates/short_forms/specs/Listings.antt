@@ -32,6 +32,14 @@ marked words c = member (c % 64) (getD words (c / 64) 0)
 pub record Tabled (bytes : List ℕ) (s : Side) (words : List ℕ) (k : ℕ) : Type 0 where
   pub holds : (n : ℕ) (t : Term) → bytes ≡ codes t → NamesBelow n t → (w : ℕ) → w < k → getD words w 0 ≡ heldWord t s w
 
+-- c has the name i as a member, and without it is one of f
+unfoldable pub markedWithout : ℕ → (ℕ → Bool) → ℕ → Bool
+markedWithout i f c = member i c && f (c - 2 ^ i)
+
+-- the numbers first + j for the bits j of a word, ascending
+unfoldable pub bitsOf : ℕ → ℕ → List ℕ
+bitsOf word first = those (λ c. member (c - first) word) first 64
+
 -- one of f, and with any one member less it is not
 unfoldable pub irredundant : ℕ → (ℕ → Bool) → ℕ → Bool
 irredundant n f c = f c && every (λ i. implies (member i c) (not (f (c - 2 ^ i)))) n

@@ -1,14 +1,14 @@
 // Short forms: a term's minimal coalitions on each side (document 01, "Short form").
 use terms::TermReading;
 ghost use mathlib.Core.Path.{_≡_};
-ghost use mathlib.Core.List.{_++_};
 ghost use Prim.Native.Nat.{_+_, _*_, _^_, _≤_, _<_};
-ghost use lib.ListN.{length, take, drop};
+ghost use lib.ListN.{length};
 ghost use Rattle.model.specs.Bytes.{bigEndian};
 ghost use Rattle.model.specs.Answers.{confidentiality, integrity};
-ghost use Rattle.model.specs.ShortForms.{shorten};
+ghost use Rattle.model.specs.Extracts.{packed};
+ghost use Rattle.model.specs.ShortForms.{pairs, shorten};
 ghost use Rattle.words.specs.Evaluation.{wordsOf};
-ghost use Rattle.short_forms.specs.Listings.{outcomeOf, marked, Tabled, irredundant, listing, FrontWritten, ShortWritten};
+ghost use Rattle.short_forms.specs.Listings.{outcomeOf, marked, markedWithout, Tabled, irredundant, bitsOf, listing, FrontWritten, ShortWritten};
 
 pub enum ShortForm {
     // The number of bytes.
@@ -18,8 +18,8 @@ pub enum ShortForm {
 }
 
 // The words of a term on each side: a table of marks, looked up from then on.
-fn evaluate(term: &[u8], n: u64, see: &mut [u64; 64], change: &mut [u64; 64])
-    requires { ⌜ (length (now see) ≡ 64) × (length (now change) ≡ 64) ⌝ }
+fn evaluate(term: &[u8], n: u64, see: &mut [u64], change: &mut [u64])
+    requires { ⌜ (wordsOf n ≤ length (now see)) × (wordsOf n ≤ length (now change)) ⌝ }
     ensures { λ _. ⌜ Tabled (now (term .entry)) confidentiality (now (see .exit)) (wordsOf n) ⌝ }
     ensures { λ _. ⌜ Tabled (now (term .entry)) integrity (now (change .exit)) (wordsOf n) ⌝ }
 {
@@ -34,60 +34,83 @@ fn evaluate(term: &[u8], n: u64, see: &mut [u64; 64], change: &mut [u64; 64])
     }
 }
 
-fn is_marked(marks: &[u64; 64], c: usize) -> bool
-    requires { ⌜ c < 4096 ⌝ }
-    ensures { λ r. ⌜ r ≡ marked (now (marks .entry)) c ⌝ }
+// The coalitions of word w that have name i as a member and are marked without it.
+fn less_word(marks: &[u64], i: u64, w: u64) -> u64
+    requires { ⌜ (i < 12) × (w < length (now marks)) ⌝ }
+    ensures { λ r. ⌜ r ≡ packed (markedWithout i (marked (now (marks .entry)))) (64 * w) 64 ⌝ }
 {
-    (marks[c / 64] >> (c % 64)) % 2 == 1
+    let place = w as usize;
+    if i < 6 {
+        let name = [i as u8];
+        let having = words::words_of(&name, w);
+        let up: u64 = 1 << i;
+        return (marks[place] << up) & having.see;
+    }
+    if (w >> (i - 6)) % 2 == 1 {
+        let down: usize = 1 << (i - 6);
+        return marks[place - down];
+    }
+    0
 }
 
 // Terms are monotone: a marked coalition is minimal if it is not marked with any one member less.
-fn is_minimal(marks: &[u64; 64], n: u64, c: usize) -> bool
-    requires { ⌜ (n ≤ 12) × (c < 4096) ⌝ }
-    ensures { λ r. ⌜ r ≡ irredundant n (marked (now (marks .entry))) c ⌝ }
+fn minimal_word(marks: &[u64], n: u64, w: u64) -> u64
+    requires { ⌜ (n ≤ 12) × (w < length (now marks)) ⌝ }
+    ensures { λ r. ⌜ r ≡ packed (irredundant n (marked (now (marks .entry)))) (64 * w) 64 ⌝ }
 {
-    if !is_marked(marks, c) {
-        return false;
-    }
+    let place = w as usize;
+    let mut found = marks[place];
     let mut i: u64 = 0;
     while i < n {
-        if (c >> i) % 2 == 1 {
-            let less = c - (1 << i);
-            if is_marked(marks, less) {
-                return false;
-            }
-        }
+        found = found & !less_word(marks, i, w);
         i += 1;
     }
-    true
+    found
 }
 
-// A two-byte field, big-endian.
-fn put(buffer: &mut [u8], at: usize, x: usize)
-    requires { ⌜ (at + 2 ≤ length (now buffer)) × (x < 65536) ⌝ }
-    ensures { λ _. ⌜ now (buffer .exit) ≡ take at (now (buffer .entry)) ++ (bigEndian x ++ drop (at + 2) (now (buffer .entry))) ⌝ }
+// A two-byte field, big-endian, at the front of the buffer.
+fn put(buffer: &mut [u8], x: usize)
+    requires { ⌜ (2 ≤ length (now buffer)) × (x < 65536) ⌝ }
+    ensures { λ _. ⌜ FrontWritten (bigEndian x) (now (buffer .entry)) (now (buffer .exit)) 2 ⌝ }
 {
-    buffer[at] = (x / 256) as u8;
-    buffer[at + 1] = (x % 256) as u8;
+    buffer[0] = (x / 256) as u8;
+    buffer[1] = (x % 256) as u8;
 }
 
-// Writes one side to the front of the buffer: the coalitions, and then, before them, how many they are.
-fn list_side(marks: &[u64; 64], n: u64, buffer: &mut [u8]) -> usize
-    requires { ⌜ (n ≤ 12) × (2 + 2 * 2 ^ n ≤ length (now buffer)) ⌝ }
-    ensures { λ r. ⌜ FrontWritten (listing n (irredundant n (marked (now (marks .entry))))) (now (buffer .entry)) (now (buffer .exit)) r ⌝ }
+// Writes coalition first + j for each bit j of the word, ascending.
+fn list_word(word: u64, first: usize, buffer: &mut [u8]) -> usize
+    requires { ⌜ (first + 64 ≤ 65536) × (2 * length (bitsOf word first) ≤ length (now buffer)) ⌝ }
+    ensures { λ r. ⌜ FrontWritten (pairs (bitsOf word first)) (now (buffer .entry)) (now (buffer .exit)) r ⌝ }
 {
-    let all: usize = 1 << n;
-    let mut count: usize = 0;
-    let mut c: usize = 0;
-    while c < all {
-        if is_minimal(marks, n, c) {
-            put(buffer, 2 + 2 * count, c);
-            count += 1;
-        }
+    let mut rest = word;
+    let mut c = first;
+    let mut at: usize = 0;
+    while rest != 0 {
+        let skip = words::lowest(rest);
+        rest = rest >> skip >> 1;
+        c += skip as usize;
+        put(&mut buffer[at..], c);
+        at += 2;
         c += 1;
     }
-    put(buffer, 0, count);
-    2 + 2 * count
+    at
+}
+
+// Writes one side to the front of the buffer: the minimal coalitions, and then, before them, how many they are.
+fn list_side(marks: &[u64], n: u64, buffer: &mut [u8]) -> usize
+    requires { ⌜ (n ≤ 12) × (wordsOf n ≤ length (now marks)) × (2 + 2 * 2 ^ n ≤ length (now buffer)) ⌝ }
+    ensures { λ r. ⌜ FrontWritten (listing n (irredundant n (marked (now (marks .entry))))) (now (buffer .entry)) (now (buffer .exit)) r ⌝ }
+{
+    let count = words::word_count(n);
+    let mut at: usize = 2;
+    let mut w: u64 = 0;
+    while w < count {
+        let word = words::low_mask(n, w) & minimal_word(marks, n, w);
+        at += list_word(word, 64 * (w as usize), &mut buffer[at..]);
+        w += 1;
+    }
+    put(buffer, (at - 2) / 2);
+    at
 }
 
 // Writes the short form of an accepted term, the see side first.

@@ -1,9 +1,9 @@
--- `short_forms::evaluate` meets its contract. Assumes nothing.
-use native.Mathlib.Omega.{arith}
-use borrow.Author.Needs.{needs}
+-- `short_forms::evaluate` meets its contract. The loop has filled the words that it passed. Assumes nothing.
+use mathlib.Core.Path.{_≡_, refl, _∙_}
 use Prim.Native.Nat.{_-_, _≤_}
-use mathlib.Core.Path.{_≡_, _∙_}
+use native.Mathlib.Omega.{arith}
 use lib.ListN.{length, length-set}
+use borrow.Author.Needs.{needs}
 use Rattle.model.specs.Answers.{confidentiality, integrity}
 use Rattle.words.specs.Evaluation.{wordsOf}
 use Rattle.words.proofs.Names.{words-few}
@@ -18,76 +18,77 @@ use Rattle.words.proofs.words_of.Reads as words-of-reads
 
 abbrev Inv-loop : tie.InvT-loop
 Inv-loop term n see₀ change₀ count w₀ see change w =
-    (w ≤ count) × (count ≤ 64) × (length see ≡ 64) × (length change ≡ 64) × Tabled term confidentiality see w × Tabled term integrity change w
+    (w ≤ count) × (count ≡ wordsOf n) × (count ≤ 64) × (length see ≡ length see₀) × (length change ≡ length change₀)
+    × Tabled term confidentiality see w × Tabled term integrity change w
 
 abbrev μ-loop : tie.MeasureT-loop
 μ-loop term n see₀ change₀ count w₀ see change w = count - w
 
--- src/lib.rt:25:9
 word-count-requires : tie.Need-word-count-requires Inv-loop μ-loop
 word-count-requires c κs = search needs
 
--- src/lib.rt:27:5
 loop-holds : tie.Need-loop-holds Inv-loop μ-loop
 loop-holds c =
-    let a = c .before .before .args in
-    let h = c .before .before .pre in (
+    let a = c .before .before .before .before .args in
+    let e = c .word-count .ensures in
+    (
       omega arith,
-      omega (arith, c .word-count .ensures, words-few (a .n)),
-      h .0,
-      h .1,
+      e,
+      omega (arith, e, words-few (a .n)),
+      refl,
+      refl,
       tabled-none (a .term .now) confidentiality (a .see .now),
       tabled-none (a .term .now) integrity (a .change .now),
     )
 
--- src/lib.rt:28:13
 words-of-requires : tie.Need-words-of-requires Inv-loop μ-loop
 words-of-requires c κs = search needs
 
--- src/lib.rt:30:9
 mul-see : tie.Need-mul-see Inv-loop μ-loop
 mul-see c = search needs
 
--- src/lib.rt:30:9
-element-write-see : tie.Need-element-write-see Inv-loop μ-loop
-element-write-see c = search needs
+slice-write-see : tie.Need-slice-write-see Inv-loop μ-loop
+slice-write-see c = search needs
 
--- src/lib.rt:31:9
 mul-change : tie.Need-mul-change Inv-loop μ-loop
 mul-change c = search needs
 
--- src/lib.rt:31:9
-element-write-change : tie.Need-element-write-change Inv-loop μ-loop
-element-write-change c = search needs
+slice-write-change : tie.Need-slice-write-change Inv-loop μ-loop
+slice-write-change c = search needs
 
--- src/lib.rt:32:9
 add-w : tie.Need-add-w Inv-loop μ-loop
 add-w c = search needs
 
--- src/lib.rt:27:5
 loop-less : tie.Need-loop-less Inv-loop μ-loop
 loop-less c = search needs
 
--- src/lib.rt:27:5
 loop-again : tie.Need-loop-again Inv-loop μ-loop
 loop-again c =
+    let a = c .before .before .before .before .before .before .before .args in
     let l = c .before .before .loop in
-    let a = c .before .before .before .before .before .args in
-    let e = c .words-of .ensures .term in (
+    let r = c .words-of .result in
+    let e = c .words-of .ensures .term in
+    (
       omega arith,
       l .inv .1,
-      length-set (l .see) (l .w) (c .words-of .result .see) ∙ l .inv .2,
-      length-set (l .change) (l .w) (c .words-of .result .change) ∙ l .inv .3,
-      tabled-more (a .term .now) confidentiality (l .see) (l .w) (c .words-of .result .see) (omega arith) (l .inv .4) (λ n t q b. e n t q b .see-word),
-      tabled-more (a .term .now) integrity (l .change) (l .w) (c .words-of .result .change) (omega arith) (l .inv .5) (λ n t q b. e n t q b .change-word),
+      l .inv .2,
+      length-set (l .see) (l .w) (r .see) ∙ l .inv .3,
+      length-set (l .change) (l .w) (r .change) ∙ l .inv .4,
+      tabled-more (a .term .now) confidentiality (l .see) (l .w) (r .see) (omega arith) (l .inv .5) (λ n t q b. e n t q b .see-word),
+      tabled-more (a .term .now) integrity (l .change) (l .w) (r .change) (omega arith) (l .inv .6) (λ n t q b. e n t q b .change-word),
     )
 
--- src/lib.rt:21:1
+same-length : tie.Need-same-length Inv-loop μ-loop
+same-length c = search needs
+
+same-length-2 : tie.Need-same-length-2 Inv-loop μ-loop
+same-length-2 c = search needs
+
 returns : tie.Need-returns Inv-loop μ-loop
 returns c =
     let l = c .before .loop in
-    let e : l .w ≡ wordsOf (c .before .before .before .before .args .n) = omega (arith, c .before .before .word-count .ensures) in
-    (rw e at (l .inv .4), rw e at (l .inv .5))
+    let e : l .w ≡ wordsOf (c .before .before .before .before .before .before .args .n) = omega (arith, l .inv .1) in
+    (rw e at (l .inv .5), rw e at (l .inv .6))
 
 pub evaluate-spec : {M : Type 1} → statement M
 evaluate-spec =
@@ -99,10 +100,12 @@ evaluate-spec =
     loop-holds
     words-of-requires
     mul-see
-    element-write-see
+    slice-write-see
     mul-change
-    element-write-change
+    slice-write-change
     add-w
     loop-less
     loop-again
+    same-length
+    same-length-2
     returns)

@@ -1,111 +1,111 @@
--- `short_forms::list_side` meets its contract. The loop has listed the coalitions that it passed. Assumes nothing.
-use mathlib.Core.Bool.{true, false}
+-- `short_forms::list_side` meets its contract. The loop has listed the words that it passed. Assumes nothing.
 use mathlib.Core.Path.{_≡_, refl, sym, ap, _∙_}
-use mathlib.Core.Logic.{⊎-elim}
 use Prim.Native.Nat.{_+_, _-_, _*_, _^_, _≤_}
 use native.Mathlib.Omega.{arith}
-use lib.ListN.{length}
+use lib.Bits.{bitAnd}
+use lib.ListN.{length, length-take, length-drop}
 use lib.Pow.{pow-mono}
 use borrow.Author.Needs.{needs}
-use Rattle.short_forms.specs.Listings.{marked, irredundant}
-use Rattle.short_forms.proofs.Needed.{shifted}
-use Rattle.short_forms.proofs.Writing.{ListedSoFar, so-far-none, so-far-passed, so-far-added, so-far-whole}
+use Rattle.model.proofs.Listed.{length-pairs}
+use Rattle.words.specs.Evaluation.{wordsOf}
+use Rattle.words.proofs.Names.{words-few}
+use Rattle.short_forms.specs.Listings.{marked, irredundant, bitsOf}
+use Rattle.short_forms.proofs.Sides.{SideListed, side-none, side-few, side-room, side-more, side-whole}
 use Rattle.short_forms.proofs.list_side.Statement.{statement}
 use Rattle.short_forms.proofs.list_side.Tie as tie
 use Rattle.short_forms.proofs.list_side.Reads as reads
 use Rattle.short_forms.proofs.list_side.Lts as lts
-use Rattle.short_forms.proofs.is_minimal.Reads as is-minimal-reads
+use Rattle.short_forms.proofs.list_word.Reads as list-word-reads
+use Rattle.short_forms.proofs.minimal_word.Reads as minimal-word-reads
 use Rattle.short_forms.proofs.put.Reads as put-reads
+use Rattle.words.proofs.low_mask.Reads as low-mask-reads
+use Rattle.words.proofs.word_count.Reads as word-count-reads
 
 abbrev Inv-loop : tie.InvT-loop
-Inv-loop marks n buffer₀ all count₀ c₀ buffer count c =
-    (c ≤ all) × (all ≡ 2 ^ n) × (all ≤ 4096) × (2 + 2 * all ≤ length buffer₀)
-    × ListedSoFar (irredundant n (marked marks)) c buffer₀ buffer count
+Inv-loop marks n buffer₀ count at₀ w₀ buffer at w =
+    (w ≤ count) × (count ≡ wordsOf n) × (count ≤ 64) × SideListed n (irredundant n (marked marks)) buffer₀ buffer at w
 
 abbrev μ-loop : tie.MeasureT-loop
-μ-loop marks n buffer₀ all count₀ c₀ buffer count c = all - c
+μ-loop marks n buffer₀ count at₀ w₀ buffer at w = count - w
 
--- src/lib.rt:78:22
-shl-all : tie.Need-shl-all Inv-loop μ-loop
-shl-all c = search needs
+room : (c : tie.After-minimal-word Inv-loop μ-loop)
+    → c .before .before .before .loop .at + 2 * length (bitsOf (bitAnd (c .before .low-mask .result) (c .minimal-word .result)) (64 * c .before .before .before .loop .w)) ≤ length (c .before .before .before .loop .buffer)
+room c =
+    let s = c .before .before .before .before .before .before .before in
+    let l = c .before .before .before .loop in
+    side-room (s .args .n) (irredundant (s .args .n) (marked (s .args .marks .now))) (s .args .buffer .now) (s .pre .2) (l .buffer) (l .at) (l .w) (l .inv .3) _ _ (c .before .low-mask .ensures) (c .minimal-word .ensures)
 
--- src/lib.rt:81:5
+word-count-requires : tie.Need-word-count-requires Inv-loop μ-loop
+word-count-requires c κs = search needs
+
 loop-holds : tie.Need-loop-holds Inv-loop μ-loop
 loop-holds c =
-    let a = c .before .args in
-    let h = c .before .pre in
-    let e = shifted (a .n) (h .0) in
-    (omega arith, e, omega (arith, e, pow-mono (h .0)), omega (arith, e), so-far-none (irredundant (a .n) (marked (a .marks .now))) (a .buffer .now))
+    let s = c .before .before .before in
+    let e = c .word-count .ensures in
+    (omega arith, e, omega (arith, e, words-few (s .args .n)), side-none (s .args .n) (irredundant (s .args .n) (marked (s .args .marks .now))) (s .args .buffer .now) (s .pre .2))
 
--- src/lib.rt:82:12
-is-minimal-requires : tie.Need-is-minimal-requires Inv-loop μ-loop
-is-minimal-requires c κs = search needs
+low-mask-requires : tie.Need-low-mask-requires Inv-loop μ-loop
+low-mask-requires c κs = search needs
 
--- src/lib.rt:83:29
-mul-put : tie.Need-mul-put Inv-loop μ-loop
-mul-put c = search needs
+minimal-word-requires : tie.Need-minimal-word-requires Inv-loop μ-loop
+minimal-word-requires c κs = search needs
 
--- src/lib.rt:83:25
-add-put : tie.Need-add-put Inv-loop μ-loop
-add-put c = search needs
+mul-list-word : tie.Need-mul-list-word Inv-loop μ-loop
+mul-list-word c = search needs
 
--- src/lib.rt:83:13
-put-requires : tie.Need-put-requires Inv-loop μ-loop
-put-requires c κs = search needs
+sub-list-word : tie.Need-sub-list-word Inv-loop μ-loop
+sub-list-word c = omega (arith, room c)
 
--- src/lib.rt:84:13
-add-count : tie.Need-add-count Inv-loop μ-loop
-add-count c = search needs
+part-list-word-start : tie.Need-part-list-word-start Inv-loop μ-loop
+part-list-word-start c = omega (arith, room c)
 
--- src/lib.rt:86:9
-add-c : tie.Need-add-c Inv-loop μ-loop
-add-c c = search needs
+part-list-word-end : tie.Need-part-list-word-end Inv-loop μ-loop
+part-list-word-end c = omega (arith, room c)
 
--- src/lib.rt:81:5
+list-word-requires : tie.Need-list-word-requires Inv-loop μ-loop
+list-word-requires c κs = simp (length-take, length-drop) (omega (arith, room (c .before)))
+
+add-at : tie.Need-add-at Inv-loop μ-loop
+add-at c = omega (arith, room (c .before .before .before .before), c .before .before .list-word .ensures .size, length-pairs (bitsOf (bitAnd (c .before .before .before .before .before .low-mask .result) (c .before .before .before .before .minimal-word .result)) (64 * c .before .before .before .before .before .before .before .loop .w)))
+
+add-w : tie.Need-add-w Inv-loop μ-loop
+add-w c = search needs
+
 loop-less : tie.Need-loop-less Inv-loop μ-loop
 loop-less c = search needs
 
--- src/lib.rt:81:5
 loop-again : tie.Need-loop-again Inv-loop μ-loop
 loop-again c =
-    let l = c .before .before .before .loop in
-    let a = c .before .before .before .before .before .args in
-    let f = irredundant (a .n) (marked (a .marks .now)) in
-    let minimal = sym (c .before .is-minimal .ensures) in (
+    let s = c .before .before .before .before .before .before .before .before .before .before .before in
+    let l = c .before .before .before .before .before .before .before .loop in
+    let word = c .before .before .before .before in
+    (
       omega arith,
       l .inv .1,
       l .inv .2,
-      l .inv .3,
-      ⊎-elim
-          (λ w. rw (w .5, w .2 .ensures, w .6) (so-far-added f (a .buffer .now) (l .c) (l .buffer) (l .count) (l .inv .4) (minimal ∙ w .0 .taken) (omega arith)))
-          (λ w. rw (w .1, w .2) (so-far-passed f (a .buffer .now) (l .c) (l .buffer) (l .count) (l .inv .4) (minimal ∙ w .0 .left)))
-          (c .if1 .came),
+      side-more (s .args .n) (irredundant (s .args .n) (marked (s .args .marks .now))) (s .args .buffer .now) (s .pre .2) (l .buffer) (l .at) (l .w) (l .inv .3) _ _ (word .before .low-mask .ensures) (word .minimal-word .ensures)
+      (c .before .before .list-word .last .1 .1 .0) (c .before .before .list-word .result) (c .before .before .list-word .ensures) (c .before .buffer .given .1),
     )
 
--- src/lib.rt:88:5
-put-requires-2 : tie.Need-put-requires-2 Inv-loop μ-loop
-put-requires-2 c κs = search needs
+sub-put : tie.Need-sub-put Inv-loop μ-loop
+sub-put c = omega (arith, c .before .before .loop .inv .3 .place)
 
--- src/lib.rt:89:9
-mul-result : tie.Need-mul-result Inv-loop μ-loop
-mul-result c = search needs
+put-requires : tie.Need-put-requires Inv-loop μ-loop
+put-requires c κs =
+    let s = c .before .before .before .before .before .before in
+    let l = c .before .before .loop in
+    let few = side-few (s .args .n) (irredundant (s .args .n) (marked (s .args .marks .now))) (s .args .buffer .now) (s .pre .2) (l .buffer) (l .at) (l .w) (l .inv .3) in
+    omega (arith, few, pow-mono (s .pre .0), l .inv .3 .same)
 
--- src/lib.rt:89:5
-add-result : tie.Need-add-result Inv-loop μ-loop
-add-result c = search needs
-
--- src/lib.rt:74:1
 same-length : tie.Need-same-length Inv-loop μ-loop
-same-length c = search needs
+same-length c = c .before .before .put .kept .0 ∙ c .before .before .before .before .before .loop .inv .3 .same
 
--- src/lib.rt:74:1
 returns : tie.Need-returns Inv-loop μ-loop
 returns c =
+    let s = c .before .before .before .before .before .before .before .before .before in
     let l = c .before .before .before .before .before .loop in
-    let a = c .before .before .before .before .before .before .before .args in
-    let f = irredundant (a .n) (marked (a .marks .now)) in
-    let e : l .c ≡ 2 ^ (a .n) = omega arith in
-    rw (c .before .before .put2 .ensures) (so-far-whole f (a .buffer .now) (a .n) (l .buffer) (l .count) (omega arith) (rw e at (l .inv .4)))
+    side-whole (s .args .n) (irredundant (s .args .n) (marked (s .args .marks .now))) (s .args .buffer .now) (s .pre .2) (l .buffer) (l .at) (l .w) (l .inv .3)
+    (s .pre .0) (omega (arith, l .inv .1)) (c .before .before .put .last .0) (c .before .before .put .ensures)
 
 pub list-side-spec : {M : Type 1} → statement M
 list-side-spec =
@@ -113,18 +113,20 @@ list-side-spec =
     (tie.spec
     Inv-loop
     μ-loop
-    shl-all
+    word-count-requires
     loop-holds
-    is-minimal-requires
-    mul-put
-    add-put
-    put-requires
-    add-count
-    add-c
+    low-mask-requires
+    minimal-word-requires
+    mul-list-word
+    sub-list-word
+    part-list-word-start
+    part-list-word-end
+    list-word-requires
+    add-at
+    add-w
     loop-less
     loop-again
-    put-requires-2
-    mul-result
-    add-result
+    sub-put
+    put-requires
     same-length
     returns)

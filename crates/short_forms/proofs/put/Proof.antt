@@ -1,40 +1,35 @@
 -- `short_forms::put` meets its contract. Assumes nothing.
-use native.Mathlib.Omega.{arith}
+use mathlib.Core.Path.{refl}
+use Rattle.short_forms.proofs.Fronts.{two-stored}
 use borrow.Author.Needs.{needs}
-use lib.ListN.{length-set}
-use Rattle.short_forms.proofs.Writing.{two-stored}
 use Rattle.short_forms.proofs.put.Statement.{statement}
 use Rattle.short_forms.proofs.put.Tie as tie
 use Rattle.short_forms.proofs.put.Reads as reads
 use Rattle.short_forms.proofs.put.Lts as lts
 
--- src/lib.rt:69:18
+-- src/lib.rt:77:17
 cast-buffer : tie.Need-cast-buffer
 cast-buffer c = search needs
 
--- src/lib.rt:69:5
+-- src/lib.rt:77:5
 slice-write-buffer : tie.Need-slice-write-buffer
 slice-write-buffer c = search needs
 
--- src/lib.rt:70:22
+-- src/lib.rt:78:17
 cast-buffer-2 : tie.Need-cast-buffer-2
 cast-buffer-2 c = search needs
 
--- src/lib.rt:70:12
-add-buffer : tie.Need-add-buffer
-add-buffer c = search needs
-
--- src/lib.rt:70:5
+-- src/lib.rt:78:5
 slice-write-buffer-2 : tie.Need-slice-write-buffer-2
-slice-write-buffer-2 c = simp length-set (omega arith)
+slice-write-buffer-2 c = search needs
 
--- src/lib.rt:65:1
+-- src/lib.rt:73:1
 same-length : tie.Need-same-length
 same-length c = search needs
 
--- src/lib.rt:65:1
+-- src/lib.rt:73:1
 returns : tie.Need-returns
-returns c = two-stored _ _ _ _ (c .pre .0)
+returns c = record { size = refl; content = two-stored (c .args .buffer .now) _ _ (c .pre .0) }
 
 pub put-spec : {M : Type 1} → statement M
 put-spec =
@@ -43,7 +38,6 @@ put-spec =
     cast-buffer
     slice-write-buffer
     cast-buffer-2
-    add-buffer
     slice-write-buffer-2
     same-length
     returns)

@@ -1,21 +1,21 @@
 -- Coalitions as sets of names, and terms as monotone in them: a coalition with more members holds what one with fewer holds. So a minimal
 -- coalition (document 01, "Short form") is told by the coalitions with one member less. Assumes nothing.
-use mathlib.Core.Path.{_≡_, refl, sym, ap, _∙_, subst}
-use mathlib.Core.Logic.{_⊎_, inl, inr, _↔_}
-use Prim.Native.Nat.{ℕ, zero, suc, _+_, _-_, _*_, _/_, _%_, _^_, _≤_, _<_}
-use native.Mathlib.Nat.{pow-suc, le-of-lt}
+use mathlib.Core.Path.{_≡_, refl, sym, ap, _∙_}
+use mathlib.Core.Logic.{_↔_}
+use Prim.Native.Nat.{ℕ, zero, suc, _-_, _/_, _%_, _^_, _≤_, _<_}
+use native.Mathlib.Nat.{pow-suc}
 use native.Mathlib.Decide.{ℕ-discrete}
 use native.Mathlib.Omega.{arith}
-use mathlib.Core.Bool.{Bool, true, false, not, _&&_, _||_}
+use mathlib.Core.Bool.{Bool, true, false, not, _&&_}
 use lib.Dec.{eqb}
-use borrow.Author.Tests.{eqb-true, eq-eqb, eqb-false, ne-eqb, not-true}
+use borrow.Author.Tests.{eqb-true, eqb-false, ne-eqb, not-true}
 use Rattle.model.specs.Answers.{Side, confidentiality, integrity}
 use Rattle.model.specs.Terms.{Term, name, top, bottom, conj, disj, project, NamesBelow, member, held}
 use Rattle.model.specs.Grants.{implies, every}
 use Rattle.model.specs.Questions.{Lowest, nowhere, at, lowest}
 use Rattle.model.specs.ShortForms.{properSubset, minimal}
-use Rattle.model.proofs.Truth.{decide, clash, true-of, false-of, and-intro, and-left, and-right, or-left, or-right, or-elim, bool-ext, implies-elim, implies-intro}
-use Rattle.model.proofs.Search.{Says, IsLowest, every-elim, every-intro, lowest-says}
+use Rattle.model.proofs.Truth.{clash, true-of, false-of, and-intro, and-left, and-right, or-left, or-right, or-elim, bool-ext, implies-elim, implies-intro}
+use Rattle.model.proofs.Search.{Says, every-elim, every-intro, lowest-says}
 use Rattle.model.proofs.Packed.{member-zero, member-suc, bits-ext}
 
 -- of n names, every member of b is one of c

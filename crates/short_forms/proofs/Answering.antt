@@ -1,18 +1,16 @@
 -- Each answer of the short form's call, and the buffer with it, is the model's (document 01, "Short form" and its refusals). Assumes nothing.
-use mathlib.Core.Path.{_≡_, refl, sym, ap, ap₂, _∙_}
+use mathlib.Core.Path.{_≡_, ap₂}
 use mathlib.Core.Logic.{_⊎_, inl, inr}
-use mathlib.Core.Bool.{Bool, true, false, _&&_}
 use mathlib.Core.List.{List}
 use Prim.Native.Nat.{ℕ, _≤_, _<_}
 use native.Mathlib.Omega.{arith}
 use lib.ListN.{length}
 use borrow.Author.Tests.{le-leb, lt-leb}
-use Rattle.model.specs.Answers.{Outcome}
 use Rattle.model.specs.Terms.{readTerm}
 use Rattle.model.specs.ShortForms.{shortFormOf, shorten}
 use Rattle.terms.specs.Readings.{termReading}
 use Rattle.terms.specs.declared.TermReading.the-variants as reading
-use Rattle.terms.proofs.Accepted.{AcceptedTerm, accepted-term, refused-term}
+use Rattle.terms.proofs.Accepted.{accepted-term, refused-term}
 use Rattle.short_forms.specs.Listings.{outcomeOf, ShortWritten}
 use Rattle.short_forms.specs.declared.ShortForm.the-variants.{Written, Refused}
 

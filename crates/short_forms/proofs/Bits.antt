@@ -1,9 +1,8 @@
 -- The bits of a word, read off lowest first. Assumes nothing.
-use mathlib.Core.Path.{_≡_, refl, sym, ap, ap₂, _∙_}
+use mathlib.Core.Path.{_≡_, sym, ap, ap₂, _∙_}
 use mathlib.Core.Bool.{Bool, true, false}
 use mathlib.Core.List.{List, [], _∷_, _++_, append-nil}
-use Prim.Native.Nat.{ℕ, _+_, _-_, _*_, _/_, _%_, _^_, _≤_, _<_}
-use native.Mathlib.Nat.{lt-of-le-of-lt}
+use Prim.Native.Nat.{ℕ, _+_, _-_, _/_, _%_, _^_, _≤_, _<_}
 use native.Mathlib.Decide.{decLt}
 use native.Mathlib.Omega.{arith}
 use lib.Dec.{eqb}
@@ -62,8 +61,8 @@ module _ (word first c rest : ℕ) (from : first ≤ c) (moved : rest ≡ word /
       let e : c - first + (64 - (c - first)) ≡ 64 = omega arith in
       let s : first + (c - first) ≡ c = omega arith in
       let none : those (bitAt word first) (first + (c - first)) (64 - (c - first)) ≡ [] = those-none (bitAt word first) (first + (c - first)) (64 - (c - first)) (λ k l m.
-          let j : c + (k - c) ≡ k = omega arith in
-          ap (bitAt word first) (sym j) ∙ bit-moved (k - c) ∙ ap (member (k - c)) z ∙ none-zero (k - c)) in
+      let j : c + (k - c) ≡ k = omega arith in
+      ap (bitAt word first) (sym j) ∙ bit-moved (k - c) ∙ ap (member (k - c)) z ∙ none-zero (k - c)) in
       sym (ap (those (bitAt word first) first) (sym e) ∙ those-add (bitAt word first) first (c - first) (64 - (c - first))
       ∙ ap (λ (l : List ℕ). passed word first c ++ l) none ∙ append-nil (passed word first c))
 
@@ -72,8 +71,8 @@ module _ (word first c rest : ℕ) (from : first ≤ c) (moved : rest ≡ word /
     near = lowest .small;
     below = inside;
     listed =
-      ap (those f first) parts ∙ those-add f first (c - first) (r + 1)
-      ∙ ap (λ (l : List ℕ). passed word first c ++ l) (ap (λ (k : ℕ). those f k (r + 1)) start ∙ those-add f c r 1 ∙ ap₂ _++_ skipped (those-one f (c + r) set));
+        ap (those f first) parts ∙ those-add f first (c - first) (r + 1)
+        ∙ ap (λ (l : List ℕ). passed word first c ++ l) (ap (λ (k : ℕ). those f k (r + 1)) start ∙ those-add f c r 1 ∙ ap₂ _++_ skipped (those-one f (c + r) set));
     left = ap (λ (x : ℕ). x / 2 ^ r / 2) moved ∙ ap (λ (x : ℕ). x / 2) (shr-shr word (c - first) r) ∙ shr-shr word (c - first + r) 1 ∙ ap (λ (k : ℕ). word / 2 ^ k) place;
   }
     where

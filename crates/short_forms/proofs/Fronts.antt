@@ -25,7 +25,7 @@ module _ (x y before now part : List ℕ) (i j : ℕ) (first : FrontWritten x be
       let front : take i now ≡ x = ap (take i) (first .content) ∙ take-at x rest i (sym (first .size)) in
       let behind : drop i now ≡ rest = ap (drop i) (first .content) ∙ drop-at x rest i (sym (first .size)) in
       let later : drop (length y) (drop i now) ≡ drop (length (x ++ y)) before =
-          ap (drop (length y)) behind ∙ drop-drop (length y) (length x) before ∙ ap (λ (k : ℕ). drop k before) (sym (length-append x y)) in
+      ap (drop (length y)) behind ∙ drop-drop (length y) (length x) before ∙ ap (λ (k : ℕ). drop k before) (sym (length-append x y)) in
       record {
         size = omega (arith, first .size, second .size, length-append x y);
         content = rw (front, second .content, later) (sym (append-assoc x y (drop (length (x ++ y)) before)));

@@ -2,28 +2,26 @@
 use mathlib.Core.Path.{_≡_, refl, sym, ap, ap₂, _∙_, subst}
 use mathlib.Core.Bool.{Bool, true, false, not, _&&_, and-comm, and-assoc}
 use mathlib.Core.List.{List, [], _∷_}
-use mathlib.Core.Logic.{⊎-elim}
-use Prim.Native.Nat.{ℕ, zero, suc, _+_, _-_, _*_, _/_, _%_, _^_, _≤_, _<_}
-use native.Mathlib.Nat.{one-mul, mod-eq-of-lt, mul-comm, mul-assoc, add-mul, mul-lt-mul-of-pos-right, add-comm, zero-add}
+use Prim.Native.Nat.{ℕ, _+_, _-_, _*_, _/_, _%_, _^_, _≤_, _<_}
+use native.Mathlib.Nat.{mul-comm, mul-assoc, add-mul, mul-lt-mul-of-pos-right, add-comm, zero-add}
 use native.Mathlib.Numerals.{add-one}
 use native.Mathlib.Omega.{arith}
 use lib.Bits.{bitAnd}
-use lib.Dec.{eqb, leb, lit<}
+use lib.Dec.{eqb, leb}
 use lib.ListN.{getD}
 use lib.Pow.{pow-mono, pow-add, pow-pos, low, shr-shr}
-use borrow.Author.Tests.{eqb-true, eq-eqb, ne-eqb, le-leb, lt-leb}
-use Rattle.model.specs.Answers.{confidentiality}
-use Rattle.model.specs.Terms.{Term, name, codes, NamesBelow, member, held}
+use borrow.Author.Tests.{eqb-true, le-leb, lt-leb}
+use Rattle.model.specs.Terms.{name, codes, NamesBelow, member, held}
 use Rattle.model.specs.Extracts.{packed}
 use Rattle.model.specs.Grants.{implies, every}
-use Rattle.model.proofs.Truth.{decide}
+use Rattle.model.proofs.Truth.{clash, false-of}
 use Rattle.model.proofs.Packed.{member-packed, packed-lt, bits-ext}
 use Rattle.model.proofs.Monotone.{member-le}
 use Rattle.words.specs.Evaluation.{EvaluatedWhole}
-use Rattle.words.proofs.Packing.{packed-shift, packed-cong, packed-and, packed-not, packed-none, packed-split}
+use Rattle.words.proofs.Packing.{packed-shift, packed-cong, packed-and, packed-not, packed-none, packed-zero, packed-split}
 use Rattle.words.proofs.Names.{below-six, words-full}
 use Rattle.short_forms.specs.Listings.{marked, markedWithout, irredundant}
-use Rattle.short_forms.proofs.Needed.{shifted}
+use Rattle.short_forms.proofs.Needed.{shifted, irredundant-says}
 
 -- a number is the word of its own bits, wherever they start
 pub own-bits : (x i k : ℕ) → x < 2 ^ k → x ≡ packed (λ c. member (c - i) x) i k
@@ -44,12 +42,12 @@ packed-raised f i a b =
     let power : 2 ^ b * 2 ^ a ≡ whole = mul-comm (2 ^ b) (2 ^ a) ∙ sym (pow-add 2 a b) in
     let high : 2 ^ b * lost * 2 ^ a ≡ lost * whole = ap (λ (x : ℕ). x * 2 ^ a) (mul-comm (2 ^ b) lost) ∙ mul-assoc lost (2 ^ b) (2 ^ a) ∙ ap (λ (x : ℕ). lost * x) power in
     let parts : packed f i (a + b) * 2 ^ a ≡ lost * whole + kept * 2 ^ a =
-        ap (λ (x : ℕ). x * 2 ^ a) split ∙ add-mul kept (2 ^ b * lost) (2 ^ a) ∙ add-comm (kept * 2 ^ a) (2 ^ b * lost * 2 ^ a) ∙ ap (λ (x : ℕ). x + kept * 2 ^ a) high in
+    ap (λ (x : ℕ). x * 2 ^ a) split ∙ add-mul kept (2 ^ b * lost) (2 ^ a) ∙ add-comm (kept * 2 ^ a) (2 ^ b * lost * 2 ^ a) ∙ ap (λ (x : ℕ). x + kept * 2 ^ a) high in
     let fits : kept * 2 ^ a < whole = subst (λ (x : ℕ). kept * 2 ^ a < x) power (mul-lt-mul-of-pos-right (packed-lt f i b) (pow-pos a)) in
     let none : packed (raised f i a) i a ≡ 0 = packed-cong (raised f i a) (λ c. false) i a (λ c l m. rw (lt-leb (i + a) c m)) ∙ packed-none i a in
     let some : packed (raised f i a) (i + a) b ≡ kept = packed-shift (raised f i a) f (i + a) i b (λ j l.
-        let e : i + a + j - a ≡ i + j = omega arith in
-        rw (le-leb (i + a) (i + a + j) (omega arith), e)) in
+    let e : i + a + j - a ≡ i + j = omega arith in
+    rw (le-leb (i + a) (i + a + j) (omega arith), e)) in
     ap (λ (x : ℕ). x % whole) parts ∙ low lost (a + b) fits ∙ mul-comm kept (2 ^ a)
     ∙ sym (packed-split (raised f i a) i a b ∙ ap₂ (λ (x y : ℕ). x + 2 ^ a * y) none some ∙ zero-add (2 ^ a * kept))
 
@@ -145,3 +143,9 @@ module _ (f : ℕ → Bool) (i k : ℕ) where
       ∙ packed-and (irredundant n f) (λ c. not (markedWithout n f c)) i k
       ∙ packed-cong (λ c. irredundant n f c && not (markedWithout n f c)) (irredundant (n + 1) f) i k
       (λ c l m. rw (add-one, ← not-and (member n c) (f (c - 2 ^ n))) (and-assoc (f c) (every (λ j. implies (member j c) (not (f (c - 2 ^ j)))) n) (not (member n c && f (c - 2 ^ n)))))
+
+  -- where none are left, no further name brings one back
+  pub reduced-empty : (m n : ℕ) → m ≤ n → packed (irredundant m f) i k ≡ 0 → 0 ≡ packed (irredundant n f) i k
+  reduced-empty m n h z = sym (packed-zero (irredundant n f) i k .1 (λ c l u. false-of (irredundant n f c) (λ t.
+      let w = irredundant-says n f c .0 t in
+      clash (irredundant-says m f c .1 (w .0, λ j b. w .1 j (omega arith))) (packed-zero (irredundant m f) i k .0 z c l u))))

@@ -1,9 +1,9 @@
 -- The coalitions of a word, of a side and of both sides, written one behind the other. Assumes nothing.
-use mathlib.Core.Path.{_≡_, refl, sym, ap, ap₂, _∙_, subst}
+use mathlib.Core.Path.{_≡_, refl, sym, ap, ap₂, _∙_}
 use mathlib.Core.Bool.{Bool}
 use mathlib.Core.List.{List, [], _∷_, _++_, append-assoc, append-nil}
-use Prim.Native.Nat.{ℕ, _+_, _-_, _*_, _/_, _%_, _^_, _≤_, _<_}
-use native.Mathlib.Nat.{div-one, sub-self}
+use Prim.Native.Nat.{ℕ, _+_, _-_, _*_, _/_, _^_, _≤_, _<_}
+use native.Mathlib.Nat.{div-one}
 use native.Mathlib.Omega.{arith}
 use lib.Bits.{bitAnd}
 use lib.ListN.{length, take, drop, length-append, take-append-drop}
@@ -71,8 +71,8 @@ module _ (word first : ℕ) (before : List ℕ) where
         same = len ∙ done .same;
         place = omega (arith, done .place, simp length-append at (ap length (word-next .listed)));
         front =
-          front-same (sym (ap pairs (word-next .listed) ∙ pairs-append (passed word first c) ((c + r) ∷ [])))
-          (front-part (pairs (passed word first c)) (bigEndian (c + r)) before now part at 2 (done .front) w);
+            front-same (sym (ap pairs (word-next .listed) ∙ pairs-append (passed word first c) ((c + r) ∷ [])))
+            (front-part (pairs (passed word first c)) (bigEndian (c + r)) before now part at 2 (done .front) w);
       }
 
 -- ---- a side
@@ -126,8 +126,8 @@ module _ (n : ℕ) (f : ℕ → Bool) (before : List ℕ) (room : 2 + 2 * 2 ^ n 
             same = len ∙ done .same;
             place = omega (arith, done .place, new .size, length-pairs bits, simp length-append at (ap length next-marked));
             front =
-              front-same (append-assoc (take 2 before) (pairs old) (pairs bits) ∙ ap (λ (l : List ℕ). take 2 before ++ l) (sym (ap pairs next-marked ∙ pairs-append old bits)))
-              (front-part (take 2 before ++ pairs old) (pairs bits) before now part at j (done .front) new);
+                front-same (append-assoc (take 2 before) (pairs old) (pairs bits) ∙ ap (λ (l : List ℕ). take 2 before ++ l) (sym (ap pairs next-marked ∙ pairs-append old bits)))
+                (front-part (take 2 before ++ pairs old) (pairs bits) before now part at j (done .front) new);
           }
 
     -- all words are listed: the count goes before them
@@ -140,9 +140,9 @@ module _ (n : ℕ) (f : ℕ → Bool) (before : List ℕ) (room : 2 + 2 * 2 ^ n 
         let number : (at - 2) / 2 ≡ length all = omega (arith, done .place, ap length marks) in
         let size : at ≡ length (listing n f) = omega (arith, done .place, ap length marks, length-pairs all) in
         let rest : drop 2 now ≡ pairs all ++ drop (length (listing n f)) before =
-            ap (drop 2) (written .content ∙ append-assoc (take 2 before) (pairs all) (drop (length (take 2 before ++ pairs all)) before))
-            ∙ drop-at (take 2 before) (pairs all ++ drop (length (take 2 before ++ pairs all)) before) 2 (length-take-le 2 before (omega arith))
-            ∙ ap (λ (k : ℕ). pairs all ++ drop k before) (sym (written .size) ∙ size) in
+        ap (drop 2) (written .content ∙ append-assoc (take 2 before) (pairs all) (drop (length (take 2 before ++ pairs all)) before))
+        ∙ drop-at (take 2 before) (pairs all ++ drop (length (take 2 before ++ pairs all)) before) 2 (length-take-le 2 before (omega arith))
+        ∙ ap (λ (k : ℕ). pairs all ++ drop k before) (sym (written .size) ∙ size) in
         record { size = size; content = count .content ∙ ap₂ (λ (k : ℕ) (l : List ℕ). bigEndian k ++ l) number rest }
 
 pub listing-few : (n : ℕ) (f : ℕ → Bool) {before now : List ℕ} {r : ℕ} → FrontWritten (listing n f) before now r → r ≤ 2 + 2 * 2 ^ n

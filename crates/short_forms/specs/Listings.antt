@@ -1,9 +1,9 @@
 -- What the promises of the short form's code cite. The short form itself is the model's `shorten` (document 01, "Short form").
 -- Assumes nothing: these are definitions.
 use mathlib.Core.Path.{_≡_}
-use mathlib.Core.Bool.{Bool, true, false, not, _&&_}
+use mathlib.Core.Bool.{Bool, not, _&&_}
 use mathlib.Core.List.{List, _++_}
-use Prim.Native.Nat.{ℕ, _-_, _*_, _/_, _%_, _^_, _<_}
+use Prim.Native.Nat.{ℕ, _-_, _/_, _%_, _^_, _<_}
 use lib.ListN.{length, getD, drop}
 use Rattle.model.specs.Bytes.{bigEndian}
 use Rattle.model.specs.Answers.{Side, Answer, Outcome}

@@ -62,6 +62,9 @@ fn minimal_word(marks: &[u64], n: u64, w: u64) -> u64
     let mut found = marks[place];
     let mut i: u64 = 0;
     while i < n {
+        if found == 0 {
+            return 0;
+        }
         found = found & !less_word(marks, i, w);
         i += 1;
     }

@@ -11,10 +11,6 @@ use Rattle.short_forms.specs.Listings.{Tabled}
 use Rattle.short_forms.proofs.Tables.{tabled-none, tabled-more}
 use Rattle.short_forms.proofs.evaluate.Statement.{statement}
 use Rattle.short_forms.proofs.evaluate.Tie as tie
-use Rattle.short_forms.proofs.evaluate.Reads as reads
-use Rattle.short_forms.proofs.evaluate.Lts as lts
-use Rattle.words.proofs.word_count.Reads as word-count-reads
-use Rattle.words.proofs.words_of.Reads as words-of-reads
 
 abbrev Inv-loop : tie.InvT-loop
 Inv-loop term n see₀ change₀ count w₀ see change w =
@@ -30,8 +26,7 @@ word-count-requires c κs = search needs
 loop-holds : tie.Need-loop-holds Inv-loop μ-loop
 loop-holds c =
     let a = c .before .before .before .before .args in
-    let e = c .word-count .ensures in
-    (
+    let e = c .word-count .ensures in (
       omega arith,
       e,
       omega (arith, e, words-few (a .n)),
@@ -67,8 +62,7 @@ loop-again c =
     let a = c .before .before .before .before .before .before .before .args in
     let l = c .before .before .loop in
     let r = c .words-of .result in
-    let e = c .words-of .ensures .term in
-    (
+    let e = c .words-of .ensures .term in (
       omega arith,
       l .inv .1,
       l .inv .2,

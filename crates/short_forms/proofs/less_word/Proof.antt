@@ -6,67 +6,49 @@ use Rattle.short_forms.proofs.Reduced.{less-moved, less-read, less-nowh
 use borrow.Author.Needs.{needs}
 use Rattle.short_forms.proofs.less_word.Statement.{statement}
 use Rattle.short_forms.proofs.less_word.Tie as tie
-use Rattle.short_forms.proofs.less_word.Reads as reads
-use Rattle.short_forms.proofs.less_word.Lts as lts
-use Rattle.words.proofs.words_of.Reads as words-of-reads
 
--- src/lib.rt:45:21
 cast-t10 : tie.Need-cast-t10
 cast-t10 c = search needs
 
--- src/lib.rt:46:38
 slice-aggregate-words-of : tie.Need-slice-aggregate-words-of
 slice-aggregate-words-of c = search needs
 
--- src/lib.rt:46:13
 words-of-requires : tie.Need-words-of-requires
 words-of-requires c κs = search needs
 
--- src/lib.rt:47:23
 shl-up : tie.Need-shl-up
 shl-up c = search needs
 
--- src/lib.rt:48:17
 mul-result : tie.Need-mul-result
 mul-result c = search needs
 
--- src/lib.rt:48:17
 shared-slice-read-result : tie.Need-shared-slice-read-result
 shared-slice-read-result c = search needs
 
--- src/lib.rt:48:17
 shl-result : tie.Need-shl-result
 shl-result c = shift-lt _ (c .before .before .before .if1 .taken)
 
--- src/lib.rt:48:9
 returns : tie.Need-returns
 returns c = less-moved _ _ _ _ _ _ (c .before .before .before .before .if1 .taken) (c .before .shared-slice-known2 .given (c .before .before .before .before .before .before .args .w) .fits) (c .before .before .words-of .ensures)
 
--- src/lib.rt:50:9
 shr-if2 : tie.Need-shr-if2
 shr-if2 c = search needs
 
--- src/lib.rt:51:27
 shl-down : tie.Need-shl-down
 shl-down c = search needs
 
--- src/lib.rt:52:22
 sub-result : tie.Need-sub-result
 sub-result c = less-fits _ _ (omega arith) (c .if2 .taken)
 
--- src/lib.rt:52:16
 mul-result-2 : tie.Need-mul-result-2
 mul-result-2 c = search needs
 
--- src/lib.rt:52:16
 shared-slice-read-result-2 : tie.Need-shared-slice-read-result-2
 shared-slice-read-result-2 c = search needs
 
--- src/lib.rt:52:9
 returns-2 : tie.Need-returns-2
 returns-2 c = less-read _ _ _ (c .before .before .if1 .left) (omega arith) (is-member _ _ (c .before .if2 .taken)) (c .shared-slice-known3 .given _ .fits)
 
--- src/lib.rt:39:1
 returns-3 : tie.Need-returns-3
 returns-3 c = less-nowhere _ _ (c .before .if1 .left) _ (no-member _ _ (c .if2 .left))
 

@@ -1,6 +1,6 @@
 -- `short_forms::list_side` meets its contract. The loop has listed the words that it passed. Assumes nothing.
-use mathlib.Core.Path.{_≡_, refl, sym, ap, _∙_}
-use Prim.Native.Nat.{_+_, _-_, _*_, _^_, _≤_}
+use mathlib.Core.Path.{_≡_, _∙_}
+use Prim.Native.Nat.{_+_, _-_, _*_, _≤_}
 use native.Mathlib.Omega.{arith}
 use lib.Bits.{bitAnd}
 use lib.ListN.{length, length-take, length-drop}
@@ -13,13 +13,6 @@ use Rattle.short_forms.specs.Listings.{marked, irredundant, bitsOf}
 use Rattle.short_forms.proofs.Sides.{SideListed, side-none, side-few, side-room, side-more, side-whole}
 use Rattle.short_forms.proofs.list_side.Statement.{statement}
 use Rattle.short_forms.proofs.list_side.Tie as tie
-use Rattle.short_forms.proofs.list_side.Reads as reads
-use Rattle.short_forms.proofs.list_side.Lts as lts
-use Rattle.short_forms.proofs.list_word.Reads as list-word-reads
-use Rattle.short_forms.proofs.minimal_word.Reads as minimal-word-reads
-use Rattle.short_forms.proofs.put.Reads as put-reads
-use Rattle.words.proofs.low_mask.Reads as low-mask-reads
-use Rattle.words.proofs.word_count.Reads as word-count-reads
 
 abbrev Inv-loop : tie.InvT-loop
 Inv-loop marks n buffer₀ count at₀ w₀ buffer at w =
@@ -78,13 +71,12 @@ loop-again : tie.Need-loop-again Inv-loop μ-loop
 loop-again c =
     let s = c .before .before .before .before .before .before .before .before .before .before .before in
     let l = c .before .before .before .before .before .before .before .loop in
-    let word = c .before .before .before .before in
-    (
+    let word = c .before .before .before .before in (
       omega arith,
       l .inv .1,
       l .inv .2,
       side-more (s .args .n) (irredundant (s .args .n) (marked (s .args .marks .now))) (s .args .buffer .now) (s .pre .2) (l .buffer) (l .at) (l .w) (l .inv .3) _ _ (word .before .low-mask .ensures) (word .minimal-word .ensures)
-      (c .before .before .list-word .last .1 .1 .0) (c .before .before .list-word .result) (c .before .before .list-word .ensures) (c .before .buffer .given .1),
+          (c .before .before .list-word .last .1 .1 .0) (c .before .before .list-word .result) (c .before .before .list-word .ensures) (c .before .buffer .given .1),
     )
 
 sub-put : tie.Need-sub-put Inv-loop μ-loop

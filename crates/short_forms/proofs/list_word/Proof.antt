@@ -1,5 +1,4 @@
 -- `short_forms::list_word` meets its contract. The loop has listed the bits before number c. Assumes nothing.
-use mathlib.Core.Path.{_≡_, refl}
 use Prim.Native.Nat.{_+_, _-_, _≤_}
 use native.Mathlib.Omega.{arith}
 use lib.ListN.{length, length-take, length-drop}
@@ -8,10 +7,6 @@ use Rattle.short_forms.proofs.Bits.{NextBit}
 use Rattle.short_forms.proofs.Sides.{WordListed, word-none, word-end, word-next, word-room, word-more}
 use Rattle.short_forms.proofs.list_word.Statement.{statement}
 use Rattle.short_forms.proofs.list_word.Tie as tie
-use Rattle.short_forms.proofs.list_word.Reads as reads
-use Rattle.short_forms.proofs.list_word.Lts as lts
-use Rattle.short_forms.proofs.put.Reads as put-reads
-use Rattle.words.proofs.lowest.Reads as lowest-reads
 
 abbrev Inv-loop : tie.InvT-loop
 Inv-loop word first buffer₀ rest₀ c₀ at₀ buffer rest c at = WordListed word first buffer₀ buffer rest c at

@@ -4,30 +4,22 @@ use Rattle.short_forms.proofs.Fronts.{two-stored}
 use borrow.Author.Needs.{needs}
 use Rattle.short_forms.proofs.put.Statement.{statement}
 use Rattle.short_forms.proofs.put.Tie as tie
-use Rattle.short_forms.proofs.put.Reads as reads
-use Rattle.short_forms.proofs.put.Lts as lts
 
--- src/lib.rt:77:17
 cast-buffer : tie.Need-cast-buffer
 cast-buffer c = search needs
 
--- src/lib.rt:77:5
 slice-write-buffer : tie.Need-slice-write-buffer
 slice-write-buffer c = search needs
 
--- src/lib.rt:78:17
 cast-buffer-2 : tie.Need-cast-buffer-2
 cast-buffer-2 c = search needs
 
--- src/lib.rt:78:5
 slice-write-buffer-2 : tie.Need-slice-write-buffer-2
 slice-write-buffer-2 c = search needs
 
--- src/lib.rt:73:1
 same-length : tie.Need-same-length
 same-length c = search needs
 
--- src/lib.rt:73:1
 returns : tie.Need-returns
 returns c = record { size = refl; content = two-stored (c .args .buffer .now) _ _ (c .pre .0) }
 

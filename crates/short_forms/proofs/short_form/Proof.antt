@@ -2,58 +2,44 @@
 use native.Mathlib.Omega.{arith}
 use mathlib.Core.Path.{sym, ap, _∙_}
 use mathlib.Core.Logic.{inl, inr, ⊎-elim}
-use borrow.Author.Tests.{ltb-true, ltb-false}
+use borrow.Author.Tests.{ltb-true}
 use Rattle.terms.specs.Readings.{termRefusal}
 use Rattle.terms.specs.declared.TermReading.the-variants.{Refused}
 use Rattle.short_forms.proofs.Answering.{answer-7, answer-8, answer-term, answer-written}
 use borrow.Author.Needs.{needs}
 use Rattle.short_forms.proofs.short_form.Statement.{statement}
 use Rattle.short_forms.proofs.short_form.Tie as tie
-use Rattle.short_forms.proofs.short_form.Reads as reads
-use Rattle.short_forms.proofs.short_form.Lts as lts
-use Rattle.short_forms.proofs.write.Reads as write-reads
-use Rattle.terms.proofs.read_term.Reads as read-term-reads
-use Rattle.terms.proofs.term_refusal.Reads as term-refusal-reads
 
--- src/lib.rt:112:9
 returns : tie.Need-returns
 returns c = answer-7 _ _ _ (⊎-elim (λ w. inl (w .taken)) (λ w. inr (ltb-true _ _ (w .1 .taken))) (c .if1 .came))
 
--- src/lib.rt:115:9
 returns-2 : tie.Need-returns-2
 returns-2 c = answer-8 _ _ _ (omega arith) (search needs) (c .if3 .taken)
 
--- src/lib.rt:117:9
 read-term-requires : tie.Need-read-term-requires
 read-term-requires c κs = search needs
 
 enum-told : tie.Need-enum-told
 enum-told c = search needs
 
--- src/lib.rt:119:35
 enum-told-2 : tie.Need-enum-told-2
 enum-told-2 c = search needs
 
--- src/lib.rt:119:35
 term-refusal-requires : tie.Need-term-refusal-requires
 term-refusal-requires c κs = search needs
 
--- src/lib.rt:119:9
 returns-3 : tie.Need-returns-3
 returns-3 c =
     let g = c .before .enum-told2 .given in
     answer-term _ _ _ (omega arith) (search needs) (omega arith) _
     (sym (c .before .before .before .read-term .ensures) ∙ g .1 ∙ ap Refused (sym (c .term-refusal .ensures ∙ ap termRefusal (g .1))))
 
--- src/lib.rt:121:24
 write-requires : tie.Need-write-requires
 write-requires c κs = search needs
 
--- src/lib.rt:108:1
 same-length : tie.Need-same-length
 same-length c = search needs
 
--- src/lib.rt:108:1
 returns-4 : tie.Need-returns-4
 returns-4 c =
     let g = c .before .before .before .before .enum-told .given in

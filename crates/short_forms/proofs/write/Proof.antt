@@ -7,10 +7,6 @@ use Rattle.short_forms.proofs.Sides.{listing-few, sides-written}
 use borrow.Author.Needs.{needs}
 use Rattle.short_forms.proofs.write.Statement.{statement}
 use Rattle.short_forms.proofs.write.Tie as tie
-use Rattle.short_forms.proofs.write.Reads as reads
-use Rattle.short_forms.proofs.write.Lts as lts
-use Rattle.short_forms.proofs.evaluate.Reads as evaluate-reads
-use Rattle.short_forms.proofs.list_side.Reads as list-side-reads
 
 slice-aggregate-evaluate : tie.Need-slice-aggregate-evaluate
 slice-aggregate-evaluate c = search needs

@@ -17,3 +17,5 @@ pub mod Stands
 pub mod Steps
 pub mod Bars
 pub mod Prefixes
+pub mod Monotone
+pub mod Listed

@@ -17,7 +17,7 @@ pub enum ShortForm {
     Refused(u8),
 }
 
-// The words of a term on each side: a table of marks, looked up from then on.
+// The term is evaluated here, once: a table of marks for each side, 64 coalitions a word.
 fn evaluate(term: &[u8], n: u64, see: &mut [u64], change: &mut [u64])
     requires { ⌜ (wordsOf n ≤ length (now see)) × (wordsOf n ≤ length (now change)) ⌝ }
     ensures { λ _. ⌜ Tabled (now (term .entry)) confidentiality (now (see .exit)) (wordsOf n) ⌝ }
@@ -34,7 +34,8 @@ fn evaluate(term: &[u8], n: u64, see: &mut [u64], change: &mut [u64])
     }
 }
 
-// The coalitions of word w that have name i as a member and are marked without it.
+// The coalitions of word w that have name i as a member and are marked without it. Without a name below 6 a coalition stands 2^i
+// bits down in its word, without another 2^(i - 6) words down.
 fn less_word(marks: &[u64], i: u64, w: u64) -> u64
     requires { ⌜ (i < 12) × (w < length (now marks)) ⌝ }
     ensures { λ r. ⌜ r ≡ packed (markedWithout i (marked (now (marks .entry)))) (64 * w) 64 ⌝ }
@@ -53,7 +54,7 @@ fn less_word(marks: &[u64], i: u64, w: u64) -> u64
     0
 }
 
-// Terms are monotone: a marked coalition is minimal if it is not marked with any one member less.
+// The minimal coalitions of word w. A term is monotone in the coalition, so that one member less is all there is to try.
 fn minimal_word(marks: &[u64], n: u64, w: u64) -> u64
     requires { ⌜ (n ≤ 12) × (w < length (now marks)) ⌝ }
     ensures { λ r. ⌜ r ≡ packed (irredundant n (marked (now (marks .entry)))) (64 * w) 64 ⌝ }
@@ -80,7 +81,7 @@ fn put(buffer: &mut [u8], x: usize)
     buffer[1] = (x % 256) as u8;
 }
 
-// Writes coalition first + j for each bit j of the word, ascending.
+// Writes coalition first + j for each bit j of the word, ascending. The result is the number of bytes.
 fn list_word(word: u64, first: usize, buffer: &mut [u8]) -> usize
     requires { ⌜ (first + 64 ≤ 65536) × (2 * length (bitsOf word first) ≤ length (now buffer)) ⌝ }
     ensures { λ r. ⌜ FrontWritten (pairs (bitsOf word first)) (now (buffer .entry)) (now (buffer .exit)) r ⌝ }
@@ -99,7 +100,8 @@ fn list_word(word: u64, first: usize, buffer: &mut [u8]) -> usize
     at
 }
 
-// Writes one side to the front of the buffer: the minimal coalitions, and then, before them, how many they are.
+// Writes one side to the front of the buffer: its minimal coalitions, and then, before them, how many they are. The mask takes
+// away the bits of word 0 that are no coalition of fewer than six names.
 fn list_side(marks: &[u64], n: u64, buffer: &mut [u8]) -> usize
     requires { ⌜ (n ≤ 12) × (wordsOf n ≤ length (now marks)) × (2 + 2 * 2 ^ n ≤ length (now buffer)) ⌝ }
     ensures { λ r. ⌜ FrontWritten (listing n (irredundant n (marked (now (marks .entry))))) (now (buffer .entry)) (now (buffer .exit)) r ⌝ }
@@ -116,7 +118,7 @@ fn list_side(marks: &[u64], n: u64, buffer: &mut [u8]) -> usize
     at
 }
 
-// Writes the short form of an accepted term, the see side first.
+// Writes the short form of an accepted term, see side then change side. The result is the length.
 fn write(n: u64, term: &[u8], buffer: &mut [u8]) -> usize
     requires { ⌜ (n ≤ 12) × (16388 ≤ length (now buffer)) ⌝ }
     ensures { λ r. ⌜ ShortWritten n (now (term .entry)) (now (buffer .entry)) (now (buffer .exit)) r ⌝ }
@@ -129,7 +131,7 @@ fn write(n: u64, term: &[u8], buffer: &mut [u8]) -> usize
     first + second
 }
 
-// Takes n, a term and a buffer. A refused call leaves the buffer as it was.
+// Takes n, a term and a buffer of at least 16,388 bytes. Later bytes keep their content, and a refused call leaves all.
 pub fn short_form(n: u64, term: &[u8], buffer: &mut [u8]) -> ShortForm
     ensures { λ r. ⌜ outcomeOf r (now (buffer .exit)) ≡ shorten n (now (term .entry)) (now (buffer .entry)) ⌝ }
 {

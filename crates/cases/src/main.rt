@@ -145,6 +145,7 @@ fn acts_for_refuses(term: &[u8], refusal: u8) -> bool {
     rights::rights_acts_for(&ledger, &good, &good, term) == number + 40
 }
 
+// The flows-to question likewise.
 fn flows_to_refuses(term: &[u8], refusal: u8) -> bool {
     let ledger = plain();
     let good = [0x21u8];
@@ -180,6 +181,7 @@ fn others_refuse(term: &[u8], refusal: u8) -> bool {
     }
 }
 
+// Each call that takes a term refuses this one, with the term's number.
 fn term_refused(term: &[u8], refusal: u8) -> bool {
     if !acts_for_refuses(term, refusal) {
         return false;
@@ -210,7 +212,7 @@ fn length_refused(ledger: &[u8]) -> bool {
     is_filled(&table, BEFORE)
 }
 
-// 64 codes, 63 of them 40, and 65.
+// 64 codes, 63 of 40 and then 00, pass; 65 give 1.
 fn lengths_of_terms() -> bool {
     let mut term = [0x40u8; 65];
     term[64] = 0;
@@ -224,6 +226,7 @@ fn lengths_of_terms() -> bool {
     term_refused(&term, 1)
 }
 
+// Lengths 0, 513 and 33,792 give 10.
 fn lengths_of_ledgers() -> bool {
     let ledger = [0u8; 33792];
     if !length_refused(&ledger[..0]) {

@@ -2,13 +2,13 @@
 use ledgers::LedgerReading;
 use terms::TermReading;
 ghost use mathlib.Core.Path.{_≡_};
-ghost use mathlib.Core.Bool.{Bool};
+ghost use mathlib.Core.Bool.{Bool, not, _&&_};
 ghost use Prim.Native.Nat.{ℕ, _*_, _^_, _≤_, _<_};
 ghost use lib.ListN.{length};
 ghost use Rattle.model.specs.Bytes.{accepted};
-ghost use Rattle.model.specs.Answers.{confidentiality, number};
+ghost use Rattle.model.specs.Answers.{confidentiality, integrity, number};
 ghost use Rattle.model.specs.Terms.{Term, readTerm};
-ghost use Rattle.model.specs.Grants.{Grant, Marks, actsStatically, counts};
+ghost use Rattle.model.specs.Grants.{Grant, Marks, actsStatically, voice, counts};
 ghost use Rattle.model.specs.Ledgers.{Ledger, pBytes, qBytes};
 ghost use Rattle.model.specs.Questions.{at, lowest, soundUnder, ask, actsFor, flowsTo};
 ghost use Rattle.model.specs.Extracts.{mark, packed};
@@ -33,6 +33,17 @@ fn fill_words(codes: &[u8], n: u64, see: &mut [u64; 64], change: &mut [u64; 64])
     }
 }
 
+// Those of a word that don't hold the voice of q. Where the word is 0 there is no need of q.
+fn unspoken(q: &[u8], w: u64, change: u64) -> u64
+    ensures { λ r. ⌜ ((n : ℕ) (t : Term) (f : ℕ → Bool) → readTerm n (now (q .entry)) ≡ accepted t → change ≡ packed f (64 * w) 64 → r ≡ packed (λ c. f c && not (voice t integrity c)) (64 * w) 64) ⌝ }
+{
+    if change == 0 {
+        return 0;
+    }
+    let held = words::words_of(q, w);
+    change & !(held.see & held.change)
+}
+
 // The grant of what q may do, labelled d, counts under the label whose words these are: it is visible and spoken.
 fn grant_counts(see: &[u64; 64], change: &[u64; 64], n: u64, q: &[u8], d: &[u8]) -> bool
     ensures { λ r. ⌜ ((L : Term) (g : Grant) → GrantGiven n (now (see .entry)) (now (change .entry)) (now (q .entry)) (now (d .entry)) L g → r ≡ counts n L g) ⌝ }
@@ -42,10 +53,9 @@ fn grant_counts(see: &[u64; 64], change: &[u64; 64], n: u64, q: &[u8], d: &[u8])
     while w < words {
         let at = w as usize;
         let label = words::words_of(d, w);
-        let spoken = words::words_of(q, w);
         let unseen = see[at] & !label.see;
         let unchanged = label.change & !change[at];
-        let unspoken = label.change & !(spoken.see & spoken.change);
+        let unspoken = unspoken(q, w, label.change);
         let mask = words::low_mask(n, w);
         if mask & (unseen | unchanged | unspoken) != 0 {
             return false;
@@ -83,11 +93,16 @@ pub struct Words {
     pub change: u64,
 }
 
-// Those of two words that keep grant k: they hold its q where they hold its p.
+// Those of two words that keep grant k: they hold its q where they hold its p. Where none holds its p there is no need of q.
 fn keep(ledger: &[u8], k: usize, w: u64, of: Words) -> Words
     ensures { λ r. ⌜ ((n : ℕ) (g : Grant) (f : Marks) → readTerm n (pBytes (grantBlock (now (ledger .entry)) k)) ≡ accepted (g .p) → readTerm n (qBytes (grantBlock (now (ledger .entry)) k)) ≡ accepted (g .q) → WordsOf f w (of .see) (of .change) → WordsOf (keeping f g) w (r .see) (r .change)) ⌝ }
 {
     let p = words::words_of(ledgers::grant_p(ledger, k), w);
+    let see = of.see & p.see;
+    let change = of.change & p.change;
+    if see | change == 0 {
+        return of;
+    }
     let q = words::words_of(ledgers::grant_q(ledger, k), w);
     Words {
         see: of.see & (q.see | !p.see),

@@ -331,30 +331,18 @@ fn projects(code: u8, step: &[u8], a: &[u8]) -> bool
 fn conjunction(step: &[u8], a: &[u8], b: &[u8]) -> bool
     ensures { λ r. ⌜ ((l : Ledger) → r ≡ meets l conjunction (now (step .entry)) (now (a .entry)) (now (b .entry))) ⌝ }
 {
-    joins(
-        0x30,
-        right(step),
-        right(a),
-        right(b),
-        left(step),
-        left(a),
-        left(b),
-    )
+    let p = left(step);
+    let q = right(step);
+    joins(0x30, q, right(a), right(b), p, left(a), left(b))
 }
 
 // Rule 5: p is 31, then their left terms in order; both right terms are q.
 fn disjunction(step: &[u8], a: &[u8], b: &[u8]) -> bool
     ensures { λ r. ⌜ ((l : Ledger) → r ≡ meets l disjunction (now (step .entry)) (now (a .entry)) (now (b .entry))) ⌝ }
 {
-    joins(
-        0x31,
-        left(step),
-        left(a),
-        left(b),
-        right(step),
-        right(a),
-        right(b),
-    )
+    let p = left(step);
+    let q = right(step);
+    joins(0x31, p, left(a), left(b), q, right(a), right(b))
 }
 
 // The step meets its rule, its terms being read and its grant being there: 67 where not.

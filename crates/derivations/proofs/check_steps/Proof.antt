@@ -17,7 +17,7 @@ use Rattle.derivations.proofs.check_steps.Tie as tie
 
 abbrev Inv-loop : tie.InvT-loop
 Inv-loop derivation ledger n grants marks steps k₀ k =
-    (k ≤ steps) × ((l : Ledger) (L : Term) → LedgerOf ledger n grants l → marks ≡ countingMarks n L l → stepsFrom l L derivation k ≡ checkSteps l L derivation 0 (stepCount derivation))
+    (l : Ledger) (L : Term) → LedgerOf ledger n grants l → marks ≡ countingMarks n L l → stepsFrom l L derivation k ≡ checkSteps l L derivation 0 (stepCount derivation)
 
 abbrev μ-loop : tie.MeasureT-loop
 μ-loop derivation ledger n grants marks steps k₀ k = steps - k
@@ -28,10 +28,10 @@ more : (c : tie.After-check-step Inv-loop μ-loop) (l : Ledger) (L : Term) → l
     → onCheck (c .before .before .loop .k) s (stepsFrom l L (a .derivation .now) (c .before .before .loop .k + 1)) ≡ checkSteps l L (a .derivation .now) 0 (stepCount (a .derivation .now))
 more c l L of are s e =
     let loop = c .before .before .loop in
-    steps-more l L _ (loop .k) s _ (c .before .loop-test .taken) (sym e ∙ c .check-step .ensures l L of are) (loop .inv .1 l L of are)
+    steps-more l L _ (loop .k) s _ (c .before .loop-test .taken) (sym e ∙ c .check-step .ensures l L of are) (loop .inv l L of are)
 
 loop-holds : tie.Need-loop-holds Inv-loop μ-loop
-loop-holds c = (omega arith, λ l L of are. steps-start l L _)
+loop-holds c = λ l L of are. steps-start l L _
 
 check-step-requires : tie.Need-check-step-requires Inv-loop μ-loop
 check-step-requires c κs = omega arith
@@ -61,12 +61,12 @@ loop-less : tie.Need-loop-less Inv-loop μ-loop
 loop-less c = omega arith
 
 loop-again : tie.Need-loop-again Inv-loop μ-loop
-loop-again c = (omega arith, λ l L of are. more (c .before .before) l L of are _ (c .enum-told .given .1))
+loop-again c = λ l L of are. more (c .before .before) l L of are _ (c .enum-told .given .1)
 
 returns-2 : tie.Need-returns-2 Inv-loop μ-loop
 returns-2 c = λ l L of are.
     let loop = c .before .loop in
-    sym (steps-end l L _ (loop .k) (c .loop-test .left)) ∙ loop .inv .1 l L of are
+    sym (steps-end l L _ (loop .k) (c .loop-test .left)) ∙ loop .inv l L of are
 
 pub check-steps-spec : {M : Type 1} → statement M
 check-steps-spec =

@@ -7,6 +7,7 @@ pub mod Completeness
 pub mod Sides
 pub mod Exact
 pub mod SevenRules
-pub mod Below
 pub mod Telling
 pub mod Comparing
+pub mod Deriving
+pub mod Tried

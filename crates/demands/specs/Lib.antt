@@ -4,3 +4,5 @@ pub mod Algebra
 pub mod Rules
 pub mod Witness
 pub mod Extracts
+pub mod Derivations
+pub mod Cases

@@ -13,18 +13,18 @@ use Rattle.model.specs.Extracts.{bit, packed}
 use Rattle.model.proofs.Packed.{packed-lt}
 use Rattle.words.specs.Evaluation.{LowestMark, LowestBit}
 
-bit-lt : (b : Bool) → bit b < 2
+pub bit-lt : (b : Bool) → bit b < 2
 bit-lt false = omega arith
 bit-lt true = omega arith
 
 -- the lowest bit, and the others
-half : (f : ℕ → Bool) (i k : ℕ) → packed f i (suc k) / 2 ≡ packed f (suc i) k
+pub packed-half : (f : ℕ → Bool) (i k : ℕ) → packed f i (suc k) / 2 ≡ packed f (suc i) k
 unfolding packed
-half f i k = omega (arith, bit-lt (f i))
+packed-half f i k = omega (arith, bit-lt (f i))
 
-odd : (f : ℕ → Bool) (i k : ℕ) → packed f i (suc k) % 2 ≡ bit (f i)
+pub packed-odd : (f : ℕ → Bool) (i k : ℕ) → packed f i (suc k) % 2 ≡ bit (f i)
 unfolding packed
-odd f i k = omega (arith, bit-lt (f i))
+packed-odd f i k = omega (arith, bit-lt (f i))
 
 -- marks that agree are packed alike, wherever they start
 pub packed-shift : (f g : ℕ → Bool) (i i′ k : ℕ) → ((j : ℕ) → j < k → f (i + j) ≡ g (i′ + j)) → packed f i k ≡ packed g i′ k
@@ -46,8 +46,8 @@ module _ (op digit : ℕ → ℕ → ℕ) (mark : Bool → Bool → Bool)
   unfolding packed
   packed-op f g i zero = none
   packed-op f g i (suc k) =
-      let r = ap₂ op (half f i k) (half g i k) ∙ packed-op f g (suc i) k in
-      let d = ap₂ digit (odd f i k) (odd g i k) ∙ each (f i) (g i) in
+      let r = ap₂ op (packed-half f i k) (packed-half g i k) ∙ packed-op f g (suc i) k in
+      let d = ap₂ digit (packed-odd f i k) (packed-odd g i k) ∙ each (f i) (g i) in
       omega (arith, step (packed f i (suc k)) (packed g i (suc k)), r, d)
 
 and-bit : (a b : Bool) → min (bit a) (bit b) ≡ bit (a && b)
@@ -136,7 +136,7 @@ packed-byte f w k h = packed-part f (64 * w) 64 (8 * k) 8 (omega arith)
 
 trailing-step : (f : ℕ → Bool) (i k : ℕ) → trailingZeros (suc k) (packed f i (suc k)) ≡ under (bit (f i)) (trailingZeros k (packed f (suc i) k))
 unfolding trailingZeros
-trailing-step f i k = ap₂ under (odd f i k) (ap (trailingZeros k) (half f i k))
+trailing-step f i k = ap₂ under (packed-odd f i k) (ap (trailingZeros k) (packed-half f i k))
 
 -- the first mark, b, and what is known of those after it
 lowest-under : (f : ℕ → Bool) (i k r : ℕ) (b : Bool) → f i ≡ b → (b ≡ false → LowestMark f (suc i) k r) → LowestMark f i (suc k) (under (bit b) r)

@@ -1,0 +1,97 @@
+-- Tests of all coalitions of n names, word by word: nothing is marked in any word, or the first word that is not 0 refutes. Assumes nothing.
+use mathlib.Core.Path.{_≡_, refl, sym, ap, ap₂, _∙_}
+use mathlib.Core.Bool.{Bool, true, false, not, _&&_, _||_}
+use mathlib.Core.List.{List}
+use Prim.Native.Nat.{ℕ, _+_, _-_, _*_, _^_, _≤_, _<_}
+use native.Mathlib.Omega.{arith}
+use lib.Bits.{bitAnd, bitOr}
+use lib.Dec.{ltb}
+use borrow.Author.Tests.{lt-ltb, ltb-true}
+use Rattle.model.specs.Answers.{confidentiality, integrity}
+use Rattle.model.specs.Bytes.{accepted}
+use Rattle.model.specs.Terms.{Term, readTerm, held}
+use Rattle.model.specs.Grants.{Grant, every, actsStatically, voice, counts}
+use Rattle.model.specs.Extracts.{mark, packed}
+use Rattle.model.proofs.Truth.{clash, and-left, and-right, false-of}
+use Rattle.model.proofs.Search.{every-elim, every-intro}
+use Rattle.model.proofs.Reading.{accepted-codes}
+use Rattle.model.proofs.Bars.{lacks, barsCounting, barsActing, counts-bars, static-bars}
+use Rattle.words.specs.Evaluation.{heldWord, coalitionWord, wordsOf, HeldAt, EvaluatedWhole, LowestMark}
+use Rattle.words.proofs.Packing.{packed-and, packed-or, packed-not, packed-lowest}
+use Rattle.words.proofs.Names.{words-enough}
+use Rattle.words.proofs.Searches.{packed-mark, none-more}
+use Rattle.decisions.specs.Promises.{ClearTo}
+
+-- the words of an accepted term
+pub held-words : (n : ℕ) (bytes : List ℕ) (t : Term) (w see change next : ℕ) → EvaluatedWhole bytes w see change next → readTerm n bytes ≡ accepted t → HeldAt t 0 w see change next
+held-words n bytes t w see change next e r =
+    let a = accepted-codes n bytes t .0 r in
+    e .term n t (a .0) (a .1)
+
+-- `a & !b`
+pub packed-lacks : (f g : ℕ → Bool) (i : ℕ) → bitAnd (packed f i 64) (0xFFFF_FFFF_FFFF_FFFF - packed g i 64) ≡ packed (lacks f g) i 64
+packed-lacks f g i = ap (bitAnd (packed f i 64)) (packed-not g i 64) ∙ packed-and f (λ c. not (g c)) i 64
+
+module _ (n : ℕ) (f : ℕ → Bool) where
+  pub clear-none : ClearTo n f 0
+  clear-none c h = absurd (omega arith)
+
+  pub clear-more : (w x : ℕ) → x ≡ packed (mark n f) (64 * w) 64 → ClearTo n f w → x ≡ 0 → ClearTo n f (w + 1)
+  clear-more w x e before z c h = none-more (mark n f) (64 * w) 64 before (sym e ∙ z) c (omega arith)
+
+  -- all words are 0
+  pub clear-all : n ≤ 12 → ClearTo n f (wordsOf n) → true ≡ every (λ c. not (f c)) (2 ^ n)
+  unfolding mark
+  clear-all h clear = sym (every-intro (λ c. not (f c)) (2 ^ n) (λ c l.
+      let e : (true && f c) ≡ false = ap (λ (b : Bool). b && f c) (sym (lt-ltb c (2 ^ n) l)) ∙ clear c (omega (arith, words-enough n h)) in
+      ap not e))
+
+  -- a word is not 0
+  pub clear-not : (w x : ℕ) → x ≡ packed (mark n f) (64 * w) 64 → (x ≡ 0 → ⊥) → false ≡ every (λ c. not (f c)) (2 ^ n)
+  unfolding mark
+  clear-not w x e nonzero =
+      let m = packed-lowest (mark n f) (64 * w) 64 (λ z. nonzero (e ∙ z)) in
+      at-one (64 * w + _) (m .marked)
+    where
+      at-one : (c : ℕ) → (ltb c (2 ^ n) && f c) ≡ true → false ≡ every (λ c. not (f c)) (2 ^ n)
+      at-one c e = sym (false-of (every (λ c. not (f c)) (2 ^ n)) (λ t.
+          clash (every-elim (λ c. not (f c)) (2 ^ n) t c (ltb-true c (2 ^ n) (and-left (ltb c (2 ^ n)) (f c) e)))
+          (ap not (and-right (ltb c (2 ^ n)) (f c) e))))
+
+-- what the code computes of a word: of the coalitions of the mask, those that see the label L and not the grant's label d, that change d and
+-- not L, or that change d and don't hold the voice of q
+abbrev pub barredWord : (mask ls lc ds dc qs qc : ℕ) → ℕ
+barredWord mask ls lc ds dc qs qc =
+    bitAnd mask
+    (bitOr (bitOr (bitAnd ls (0xFFFF_FFFF_FFFF_FFFF - ds)) (bitAnd dc (0xFFFF_FFFF_FFFF_FFFF - lc))) (bitAnd dc (0xFFFF_FFFF_FFFF_FFFF - bitAnd qs qc)))
+
+pub counting-word : (n : ℕ) (L : Term) (g : Grant) (w mask ls lc ds dc dn qs qc qn : ℕ) → mask ≡ coalitionWord n w
+    → ls ≡ heldWord L confidentiality w → lc ≡ heldWord L integrity w → HeldAt (g .label) 0 w ds dc dn → HeldAt (g .q) 0 w qs qc qn
+    → barredWord mask ls lc ds dc qs qc ≡ packed (mark n (barsCounting L g)) (64 * w) 64
+unfolding barsCounting voice
+counting-word n L g w mask ls lc ds dc dn qs qc qn m a b d q =
+    let i = 64 * w in
+    let see : Term → ℕ → Bool = λ t. held t confidentiality in
+    let change : Term → ℕ → Bool = λ t. held t integrity in
+    rw (m, a, b, d .see-word, d .change-word, q .see-word, q .change-word)
+    (rw (packed-and (see (g .q)) (change (g .q)) i 64)
+    (rw (packed-lacks (see L) (see (g .label)) i, packed-lacks (change (g .label)) (change L) i, packed-lacks (change (g .label)) (voice (g .q) integrity) i)
+    (rw (packed-or (lacks (see L) (see (g .label))) (lacks (change (g .label)) (change L)) i 64)
+    (rw (packed-or (λ c. lacks (see L) (see (g .label)) c || lacks (change (g .label)) (change L) c) (lacks (change (g .label)) (voice (g .q) integrity)) i 64)
+    (packed-mark n (barsCounting L g) w)))))
+
+-- of the coalitions of the mask, those that hold p and not q on a side
+abbrev pub actingWord : (mask ps pc qs qc : ℕ) → ℕ
+actingWord mask ps pc qs qc = bitAnd mask (bitOr (bitAnd ps (0xFFFF_FFFF_FFFF_FFFF - qs)) (bitAnd pc (0xFFFF_FFFF_FFFF_FFFF - qc)))
+
+pub acting-word : (n : ℕ) (p q : Term) (w mask ps pc pn qs qc qn : ℕ) → mask ≡ coalitionWord n w → HeldAt p 0 w ps pc pn → HeldAt q 0 w qs qc qn
+    → actingWord mask ps pc qs qc ≡ packed (mark n (barsActing p q)) (64 * w) 64
+unfolding barsActing
+acting-word n p q w mask ps pc pn qs qc qn m a b =
+    let i = 64 * w in
+    let see : Term → ℕ → Bool = λ t. held t confidentiality in
+    let change : Term → ℕ → Bool = λ t. held t integrity in
+    rw (m, a .see-word, a .change-word, b .see-word, b .change-word)
+    (rw (packed-lacks (see p) (see q) i, packed-lacks (change p) (change q) i)
+    (rw (packed-or (lacks (see p) (see q)) (lacks (change p) (change q)) i 64)
+    (packed-mark n (barsActing p q) w)))

@@ -1,0 +1,29 @@
+-- What each case of the readers' answers stands for, in the words and numbers of document 01, "The ledger" and "Refusals by operation".
+-- Assumes nothing: these are definitions.
+use Prim.Native.Nat.{ℕ}
+use lib.ListN.{length}
+use Rattle.model.specs.Bytes.{Reading, accepted, refused}
+use Rattle.model.specs.Ledgers.{Ledger}
+use Rattle.ledgers.specs.declared.GrantReading.{GrantReading}
+use Rattle.ledgers.specs.declared.GrantReading.the-variants.{Accepted, Refused}
+use Rattle.ledgers.specs.declared.LedgerReading.{LedgerReading}
+use Rattle.ledgers.specs.declared.LedgerReading.the-variants.{Accepted as AcceptedLedger, Refused as RefusedLedger}
+
+-- a grant was read, or all grants were
+abbrev pub grantReading : {A : Type 0} → Reading A → GrantReading
+grantReading (accepted a) = Accepted
+grantReading (refused r) = Refused r
+
+-- the number of the refusal, 0 where there is none
+abbrev pub grantRefusal : GrantReading → ℕ
+grantRefusal Accepted = 0
+grantRefusal (Refused r) = r
+
+-- of an accepted ledger, its number of names and of grants
+abbrev pub ledgerReading : Reading Ledger → LedgerReading
+ledgerReading (accepted l) = AcceptedLedger (l .names) (length (l .grants))
+ledgerReading (refused r) = RefusedLedger r
+
+abbrev pub ledgerRefusal : LedgerReading → ℕ
+ledgerRefusal (AcceptedLedger n k) = 0
+ledgerRefusal (RefusedLedger r) = r

@@ -1,0 +1,306 @@
+// The ledger: its blocks' checks, the reader with its refusals, and the parts where the grants' terms stand.
+use terms::TermReading;
+ghost use mathlib.Core.Path.{_≡_};
+ghost use mathlib.Core.Bool.{_&&_};
+ghost use Prim.Native.Nat.{_+_, _*_, _≤_, _<_};
+ghost use lib.ListN.{length, take};
+ghost use Rattle.model.specs.Bytes.{byte, field, twoBytes, zeros};
+ghost use Rattle.model.specs.Ledgers.{weighted, checked, header, grantBlocks, allChecked, headerForm, grantForm, pBytes, qBytes, labelBytes, readGrant, readGrants, ledgerLength, readLedger};
+ghost use Rattle.model.specs.Derivations.{grantBlock};
+ghost use Rattle.ledgers.specs.Forms.{termForm};
+ghost use Rattle.ledgers.specs.Readings.{grantReading, grantRefusal, ledgerReading, ledgerRefusal};
+
+// The sum of (i + 1) × byte i over the 510 bytes before a block's check.
+fn weight(block: &[u8]) -> u32
+    requires { ⌜ 510 ≤ length (now block) ⌝ }
+    ensures { λ r. ⌜ r ≡ weighted 0 (take 510 (now (block .entry))) ⌝ }
+{
+    let mut sum: u32 = 0;
+    let mut i: usize = 0;
+    while i < 510 {
+        sum += (i + 1) as u32 * block[i] as u32;
+        i += 1;
+    }
+    sum
+}
+
+// A two-byte field, big-endian.
+fn two_bytes(block: &[u8], at: usize) -> u32
+    requires { ⌜ at + 1 < length (now block) ⌝ }
+    ensures { λ r. ⌜ r ≡ twoBytes at (now (block .entry)) ⌝ }
+{
+    block[at] as u32 * 256 + block[at + 1] as u32
+}
+
+// The block's check holds.
+fn block_check(block: &[u8]) -> bool
+    requires { ⌜ 512 ≤ length (now block) ⌝ }
+    ensures { λ r. ⌜ r ≡ checked (now (block .entry)) ⌝ }
+{
+    let sum = weight(block);
+    let check = two_bytes(block, 510);
+    check == sum % 65521
+}
+
+// Every block's check holds.
+fn all_checks(ledger: &[u8]) -> bool
+    requires { ⌜ 512 ≤ length (now ledger) ⌝ }
+    ensures { λ r. ⌜ r ≡ (checked (header (now (ledger .entry))) && allChecked (grantBlocks (now (ledger .entry)))) ⌝ }
+{
+    let blocks = ledger.len() / 512;
+    let mut k: usize = 0;
+    while k < blocks {
+        let at = 512 * k;
+        let holds = block_check(&ledger[at..at + 512]);
+        if !holds {
+            return false;
+        }
+        k += 1;
+    }
+    true
+}
+
+// All bytes of the part are 00. No branch for a byte: what is not 0 stays in `any`.
+pub fn filler(part: &[u8]) -> bool
+    ensures { λ r. ⌜ r ≡ zeros (now (part .entry)) ⌝ }
+{
+    let mut any: u8 = 0;
+    let mut i: usize = 0;
+    while i < part.len() {
+        any |= part[i];
+        i += 1;
+    }
+    any == 0
+}
+
+// Block 0 of a ledger of `count` grants: kind, n, count and filler.
+fn header_form(block: &[u8], count: usize) -> bool
+    requires { ⌜ 510 ≤ length (now block) ⌝ }
+    ensures { λ r. ⌜ r ≡ headerForm count (now (block .entry)) ⌝ }
+{
+    if block[0] != 1 {
+        return false;
+    }
+    if block[1] < 1 {
+        return false;
+    }
+    if 12 < block[1] {
+        return false;
+    }
+    let said = two_bytes(block, 2);
+    if said as usize != count {
+        return false;
+    }
+    filler(&block[4..510])
+}
+
+// Byte k is the length of the term that begins at `at`, and the rest of the field of `size` bytes is filler.
+fn term_form(block: &[u8], k: usize, at: usize, size: usize) -> bool
+    requires { ⌜ (k < length (now block)) × (64 ≤ size) × (at + size ≤ length (now block)) ⌝ }
+    ensures { λ r. ⌜ r ≡ termForm k at size (now (block .entry)) ⌝ }
+{
+    let len = block[k] as usize;
+    if len < 1 {
+        return false;
+    }
+    if 64 < len {
+        return false;
+    }
+    filler(&block[at + len..at + size])
+}
+
+// A grant's block: kind, lengths and filler.
+fn grant_form(block: &[u8]) -> bool
+    requires { ⌜ 510 ≤ length (now block) ⌝ }
+    ensures { λ r. ⌜ r ≡ grantForm (now (block .entry)) ⌝ }
+{
+    if block[0] != 2 {
+        return false;
+    }
+    let unused = filler(&block[4..16]);
+    if !unused {
+        return false;
+    }
+    let p = term_form(block, 1, 16, 64);
+    if !p {
+        return false;
+    }
+    let q = term_form(block, 2, 80, 64);
+    if !q {
+        return false;
+    }
+    term_form(block, 3, 144, 366)
+}
+
+// What reading a grant's block gives, or the blocks of all grants.
+enum GrantReading {
+    Accepted,
+    // The number of the refusal, 13 or 14.
+    Refused(u8),
+}
+
+// What reading a ledger gives.
+pub enum LedgerReading {
+    // The number of names, and of grants.
+    Accepted { names: u64, grants: usize },
+    // The number of the refusal, 10 to 14.
+    Refused(u8),
+}
+
+// The block of a grant in a job of n names: its form, then its three terms, each read as a part of the block.
+fn read_grant(block: &[u8], n: u64) -> GrantReading
+    requires { ⌜ 512 ≤ length (now block) ⌝ }
+    ensures { λ r. ⌜ r ≡ grantReading (readGrant n (now (block .entry))) ⌝ }
+{
+    let form = grant_form(block);
+    if !form {
+        return GrantReading::Refused(13);
+    }
+    let len = block[1] as usize;
+    let p = terms::read_term(&block[16..16 + len], n);
+    let TermReading::Accepted = p else {
+        return GrantReading::Refused(14);
+    };
+    let len = block[2] as usize;
+    let q = terms::read_term(&block[80..80 + len], n);
+    let TermReading::Accepted = q else {
+        return GrantReading::Refused(14);
+    };
+    let len = block[3] as usize;
+    let label = terms::read_term(&block[144..144 + len], n);
+    let TermReading::Accepted = label else {
+        return GrantReading::Refused(14);
+    };
+    GrantReading::Accepted
+}
+
+// The blocks of all grants, one after another.
+fn read_grants(ledger: &[u8], n: u64) -> GrantReading
+    ensures { λ r. ⌜ r ≡ grantReading (readGrants n (grantBlocks (now (ledger .entry)))) ⌝ }
+{
+    let blocks = ledger.len() / 512;
+    let mut k: usize = 1;
+    while k < blocks {
+        let at = 512 * k;
+        let grant = read_grant(&ledger[at..at + 512], n);
+        let GrantReading::Accepted = grant else {
+            return grant;
+        };
+        k += 1;
+    }
+    GrantReading::Accepted
+}
+
+// The number of the refusal of a grant, 0 where there is none.
+fn grant_refusal(reading: GrantReading) -> u8
+    ensures { λ k. ⌜ k ≡ grantRefusal reading ⌝ }
+{
+    match reading {
+        GrantReading::Accepted => 0,
+        GrantReading::Refused(k) => k,
+    }
+}
+
+// A multiple of 512 from 512 to 33,280: block 0 and at most 64 grants.
+fn length_fits(len: usize) -> bool
+    ensures { λ r. ⌜ r ≡ ledgerLength len ⌝ }
+{
+    if len % 512 != 0 {
+        return false;
+    }
+    512 <= len && len <= 33280
+}
+
+// Reads a ledger.
+pub fn read_ledger(ledger: &[u8]) -> LedgerReading
+    ensures { λ r. ⌜ r ≡ ledgerReading (readLedger (now (ledger .entry))) ⌝ }
+{
+    let fits = length_fits(ledger.len());
+    if !fits {
+        return LedgerReading::Refused(10);
+    }
+    let checks = all_checks(ledger);
+    if !checks {
+        return LedgerReading::Refused(11);
+    }
+    let count = ledger.len() / 512 - 1;
+    let form = header_form(&ledger[..512], count);
+    if !form {
+        return LedgerReading::Refused(12);
+    }
+    let n = ledger[1] as u64;
+    let grants = read_grants(ledger, n);
+    let GrantReading::Accepted = grants else {
+        return LedgerReading::Refused(grant_refusal(grants));
+    };
+    LedgerReading::Accepted {
+        names: n,
+        grants: count,
+    }
+}
+
+// The number of the refusal of a ledger, 0 where there is none.
+pub fn ledger_refusal(reading: LedgerReading) -> u8
+    ensures { λ k. ⌜ k ≡ ledgerRefusal reading ⌝ }
+{
+    match reading {
+        LedgerReading::Accepted {
+            names: _,
+            grants: _,
+        } => 0,
+        LedgerReading::Refused(k) => k,
+    }
+}
+
+// The bytes that start at `at`, as many as `len` or as there are.
+pub fn part(bytes: &[u8], at: usize, len: usize) -> &[u8]
+    ensures { λ r. ⌜ now r ≡ field at len (now (bytes .entry)) ⌝ }
+{
+    if bytes.len() <= at {
+        return &bytes[..0];
+    }
+    if bytes.len() - at <= len {
+        return &bytes[at..];
+    }
+    &bytes[at..at + len]
+}
+
+// The block of grant k, a part of the ledger; an empty part where there is none.
+pub fn grant_block(ledger: &[u8], k: usize) -> &[u8]
+    ensures { λ r. ⌜ now r ≡ grantBlock (now (ledger .entry)) k ⌝ }
+{
+    if ledger.len() / 512 <= k {
+        return &ledger[..0];
+    }
+    part(ledger, 512 * (k + 1), 512)
+}
+
+// The part of a grant's block whose length is byte k and that begins at `at`.
+pub fn term_part(block: &[u8], k: usize, at: usize) -> &[u8]
+    ensures { λ r. ⌜ now r ≡ field at (byte k (now (block .entry))) (now (block .entry)) ⌝ }
+{
+    if block.len() <= k {
+        return &block[..0];
+    }
+    let len = block[k] as usize;
+    part(block, at, len)
+}
+
+// Where grant k's p, q and label stand, parts of the ledger; empty parts where there is no such grant.
+pub fn grant_p(ledger: &[u8], k: usize) -> &[u8]
+    ensures { λ r. ⌜ now r ≡ pBytes (grantBlock (now (ledger .entry)) k) ⌝ }
+{
+    term_part(grant_block(ledger, k), 1, 16)
+}
+
+pub fn grant_q(ledger: &[u8], k: usize) -> &[u8]
+    ensures { λ r. ⌜ now r ≡ qBytes (grantBlock (now (ledger .entry)) k) ⌝ }
+{
+    term_part(grant_block(ledger, k), 2, 80)
+}
+
+pub fn grant_label(ledger: &[u8], k: usize) -> &[u8]
+    ensures { λ r. ⌜ now r ≡ labelBytes (grantBlock (now (ledger .entry)) k) ⌝ }
+{
+    term_part(grant_block(ledger, k), 3, 144)
+}

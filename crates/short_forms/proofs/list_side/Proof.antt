@@ -23,10 +23,7 @@ abbrev μ-loop : tie.MeasureT-loop
 
 room : (c : tie.After-minimal-word Inv-loop μ-loop)
     → c .before .before .before .loop .at + 2 * length (bitsOf (bitAnd (c .before .low-mask .result) (c .minimal-word .result)) (64 * c .before .before .before .loop .w)) ≤ length (c .before .before .before .loop .buffer)
-room c =
-    let s = c .before .before .before .before .before .before .before in
-    let l = c .before .before .before .loop in
-    side-room (s .args .n) (irredundant (s .args .n) (marked (s .args .marks .now))) (s .args .buffer .now) (s .pre .2) (l .buffer) (l .at) (l .w) (l .inv .3) _ _ (c .before .low-mask .ensures) (c .minimal-word .ensures)
+room c = side-room (c .before .before .before .before .before .before .before .pre .2) (c .before .before .before .loop .inv .3) (c .before .low-mask .ensures) (c .minimal-word .ensures)
 
 word-count-requires : tie.Need-word-count-requires Inv-loop μ-loop
 word-count-requires c κs = search needs
@@ -35,7 +32,7 @@ loop-holds : tie.Need-loop-holds Inv-loop μ-loop
 loop-holds c =
     let s = c .before .before .before in
     let e = c .word-count .ensures in
-    (omega arith, e, omega (arith, e, words-few (s .args .n)), side-none (s .args .n) (irredundant (s .args .n) (marked (s .args .marks .now))) (s .args .buffer .now) (s .pre .2))
+    (omega arith, e, omega (arith, e, words-few (s .args .n)), side-none (s .args .n) (irredundant (s .args .n) (marked (s .args .marks .now))) (s .args .buffer .now) (omega (arith, s .pre .2)))
 
 low-mask-requires : tie.Need-low-mask-requires Inv-loop μ-loop
 low-mask-requires c κs = search needs
@@ -69,14 +66,13 @@ loop-less c = search needs
 
 loop-again : tie.Need-loop-again Inv-loop μ-loop
 loop-again c =
-    let s = c .before .before .before .before .before .before .before .before .before .before .before in
-    let l = c .before .before .before .before .before .before .before .loop in
-    let word = c .before .before .before .before in (
+    let word = c .before .before .before .before in
+    let l = word .before .before .before .loop in
+    let list = c .before .before .list-word in (
       omega arith,
       l .inv .1,
       l .inv .2,
-      side-more (s .args .n) (irredundant (s .args .n) (marked (s .args .marks .now))) (s .args .buffer .now) (s .pre .2) (l .buffer) (l .at) (l .w) (l .inv .3) _ _ (word .before .low-mask .ensures) (word .minimal-word .ensures)
-          (c .before .before .list-word .last .1 .1 .0) (c .before .before .list-word .result) (c .before .before .list-word .ensures) (c .before .buffer .given .1),
+      side-more (c .before .before .before .before .before .before .before .before .before .before .before .pre .2) (l .inv .3) (word .before .low-mask .ensures) (word .minimal-word .ensures) (list .last .1 .1 .0) (list .result) (list .ensures) (c .before .buffer .given .1),
     )
 
 sub-put : tie.Need-sub-put Inv-loop μ-loop
@@ -86,8 +82,7 @@ put-requires : tie.Need-put-requires Inv-loop μ-loop
 put-requires c κs =
     let s = c .before .before .before .before .before .before in
     let l = c .before .before .loop in
-    let few = side-few (s .args .n) (irredundant (s .args .n) (marked (s .args .marks .now))) (s .args .buffer .now) (s .pre .2) (l .buffer) (l .at) (l .w) (l .inv .3) in
-    omega (arith, few, pow-mono (s .pre .0), l .inv .3 .same)
+    omega (arith, side-few (s .pre .2) (l .inv .3), pow-mono (s .pre .0), l .inv .3 .same)
 
 same-length : tie.Need-same-length Inv-loop μ-loop
 same-length c = c .before .before .put .kept .0 ∙ c .before .before .before .before .before .loop .inv .3 .same
@@ -96,8 +91,7 @@ returns : tie.Need-returns Inv-loop μ-loop
 returns c =
     let s = c .before .before .before .before .before .before .before .before .before in
     let l = c .before .before .before .before .before .loop in
-    side-whole (s .args .n) (irredundant (s .args .n) (marked (s .args .marks .now))) (s .args .buffer .now) (s .pre .2) (l .buffer) (l .at) (l .w) (l .inv .3)
-    (s .pre .0) (omega (arith, l .inv .1)) (c .before .before .put .last .0) (c .before .before .put .ensures)
+    side-whole (s .pre .2) (l .inv .3) (s .pre .0) (omega (arith, l .inv .1)) (c .before .before .put .last .0) (c .before .before .put .ensures)
 
 pub list-side-spec : {M : Type 1} → statement M
 list-side-spec =

@@ -14,11 +14,12 @@ Inv-loop word first buffer₀ rest₀ c₀ at₀ buffer rest c at = WordListed w
 abbrev μ-loop : tie.MeasureT-loop
 μ-loop word first buffer₀ rest₀ c₀ at₀ buffer rest c at = first + 64 - c
 
-next : (c : tie.After-lowest Inv-loop μ-loop) → NextBit (c .before .before .before .before .args .word) (c .before .before .before .before .args .first) (c .before .before .loop .c) (c .before .before .loop .rest) (c .lowest .result)
-next c = let s = c .before .before .before .before in let l = c .before .before .loop in word-next (s .args .word) (s .args .first) (s .args .buffer .now) (l .buffer) (l .rest) (l .c) (l .at) (l .inv) (c .lowest .result) (s .fits .word .fits) (c .before .loop-test .taken) (c .lowest .ensures)
+next : (c : tie.After-lowest Inv-loop μ-loop)
+    → NextBit (c .before .before .before .before .args .word) (c .before .before .before .before .args .first) (c .before .before .loop .c) (c .before .before .loop .rest) (c .lowest .result)
+next c = word-next (c .before .before .loop .inv) (c .before .before .before .before .fits .word .fits) (c .before .loop-test .taken) (c .lowest .ensures)
 
 room : (c : tie.After-lowest Inv-loop μ-loop) → c .before .before .loop .at + 2 ≤ length (c .before .before .loop .buffer)
-room c = let s = c .before .before .before .before in let l = c .before .before .loop in word-room (s .args .word) (s .args .first) (s .args .buffer .now) (l .buffer) (l .rest) (l .c) (l .at) (l .inv) (c .lowest .result) (s .fits .word .fits) (c .before .loop-test .taken) (c .lowest .ensures) (s .pre .1)
+room c = word-room (c .before .before .loop .inv) (next c) (c .before .before .before .before .pre .1)
 
 loop-holds : tie.Need-loop-holds Inv-loop μ-loop
 loop-holds c = word-none (c .before .args .word) (c .before .args .first) (c .before .args .buffer .now)
@@ -55,16 +56,14 @@ loop-less c = omega (arith, next (c .before .before .before .before) .below)
 
 loop-again : tie.Need-loop-again Inv-loop μ-loop
 loop-again c =
-    let s = c .before .before .before .before .before .before .before .before in
-    let l = c .before .before .before .before .before .before .loop in
-    word-more (s .args .word) (s .args .first) (s .args .buffer .now) (l .buffer) (l .rest) (l .c) (l .at) (l .inv) (c .before .before .before .before .lowest .result) (s .fits .word .fits) (c .before .before .before .before .before .loop-test .taken) (c .before .before .before .before .lowest .ensures)
-    (c .before .before .put .last .0) (c .before .before .put .ensures) (c .before .buffer .given .1)
+    let found = c .before .before .before .before in
+    word-more (found .before .before .loop .inv) (next found) (c .before .before .put .last .0) (c .before .before .put .ensures) (c .before .buffer .given .1)
 
 same-length : tie.Need-same-length Inv-loop μ-loop
 same-length c = c .before .loop .inv .same
 
 returns : tie.Need-returns Inv-loop μ-loop
-returns c = word-end _ _ _ _ _ _ _ (c .before .loop .inv) (c .loop-test .left)
+returns c = word-end (c .before .loop .inv) (c .loop-test .left)
 
 pub list-word-spec : {M : Type 1} → statement M
 list-word-spec =

@@ -7,8 +7,31 @@ ghost use lib.ListN.{length, take};
 ghost use Rattle.model.specs.Bytes.{byte, field, twoBytes, zeros};
 ghost use Rattle.model.specs.Ledgers.{weighted, checked, header, grantBlocks, allChecked, headerForm, grantForm, pBytes, qBytes, labelBytes, readGrant, readGrants, ledgerLength, readLedger};
 ghost use Rattle.model.specs.Derivations.{grantBlock};
-ghost use Rattle.ledgers.specs.Forms.{termForm};
+ghost use Rattle.ledgers.specs.Forms.{termForm, Summed};
 ghost use Rattle.ledgers.specs.Readings.{grantReading, grantRefusal, ledgerReading, ledgerRefusal};
+
+// The sum of a row's bytes, and the sum of (i + 1) × byte i.
+struct RowSums {
+    total: u32,
+    weight: u32,
+}
+
+// A row is a fifth of the 510 bytes before a block's check: a loop this short is laid out over whole vectors, its weights being constants.
+fn row_sums(row: &[u8]) -> RowSums
+    requires { ⌜ length (now row) ≡ 102 ⌝ }
+    ensures { λ r. ⌜ Summed (now (row .entry)) (r .total) (r .weight) ⌝ }
+{
+    let mut total: u32 = 0;
+    let mut weight: u32 = 0;
+    let mut i: usize = 0;
+    while i < 102 {
+        let byte = row[i] as u32;
+        total += byte;
+        weight += (i + 1) as u32 * byte;
+        i += 1;
+    }
+    RowSums { total, weight }
+}
 
 // The sum of (i + 1) × byte i over the 510 bytes before a block's check.
 fn weight(block: &[u8]) -> u32
@@ -16,10 +39,11 @@ fn weight(block: &[u8]) -> u32
     ensures { λ r. ⌜ r ≡ weighted 0 (take 510 (now (block .entry))) ⌝ }
 {
     let mut sum: u32 = 0;
-    let mut i: usize = 0;
-    while i < 510 {
-        sum += (i + 1) as u32 * block[i] as u32;
-        i += 1;
+    let mut at: usize = 0;
+    while at < 510 {
+        let row = row_sums(&block[at..at + 102]);
+        sum += at as u32 * row.total + row.weight;
+        at += 102;
     }
     sum
 }

@@ -1,6 +1,6 @@
 -- Words of coalitions that keep the counting grants, one grant after another. Assumes nothing.
 use mathlib.Core.Path.{_≡_, refl, sym, ap, ap₂, _∙_}
-use mathlib.Core.Bool.{Bool, true, false, not, _&&_, _||_}
+use mathlib.Core.Bool.{Bool, true, false, not, _&&_, _||_, true≢false}
 use mathlib.Core.List.{List}
 use Prim.Native.Nat.{ℕ, zero, suc, _+_, _-_, _*_, _/_, _%_, _^_, _≤_, _<_}
 use native.Mathlib.Numerals.{add-one}
@@ -44,16 +44,38 @@ kept-words g f w see change ps pc pn qs qc qn h p q = record {
   change-word = rw (h .change-word, p .change-word, q .change-word) (packed-implies (f integrity) (held (g .p) integrity) (held (g .q) integrity) (64 * w));
 }
 
+-- where none of f is one of p, all of f keep the grant
+none-implies : (f p q : ℕ → Bool) (i x y : ℕ) → x ≡ packed f i 64 → y ≡ packed p i 64 → bitAnd x y ≡ 0 → x ≡ packed (λ c. f c && implies (p c) (q c)) i 64
+none-implies f p q i x y a b z = a ∙ packed-cong f (λ c. f c && implies (p c) (q c)) i 64 (λ c l m. same (f c) (p c) (q c) (packed-zero (λ c. f c && p c) i 64 .0 (sym (packed-and f p i 64) ∙ both) c l m))
+  where
+    both : bitAnd (packed f i 64) (packed p i 64) ≡ 0
+    both = rw (← a, ← b) z
+
+    same : (f p q : Bool) → (f && p) ≡ false → f ≡ (f && implies p q)
+    same false p q e = refl
+    same true false q e = refl
+    same true true q e = absurd (true≢false e)
+
+-- no bit of two words is set
+or-zero : (a b : ℕ) → bitOr a b ≡ 0 → (a ≡ 0) × (b ≡ 0)
+or-zero a b e = (omega (arith, or-add-and a b, and-le-r a b), omega (arith, or-add-and a b, and-le-l a b))
+
+-- none of the words holds the grant's p
+pub kept-all : (g : Grant) (f : Marks) (w see change ps pc pn : ℕ) → WordsOf f w see change → HeldAt (g .p) 0 w ps pc pn → bitOr (bitAnd see ps) (bitAnd change pc) ≡ 0
+    → WordsOf (keeping f g) w see change
+kept-all g f w see change ps pc pn h p z =
+    let o = or-zero (bitAnd see ps) (bitAnd change pc) z in
+    record {
+      see-word = none-implies (f confidentiality) (held (g .p) confidentiality) (held (g .q) confidentiality) (64 * w) see ps (h .see-word) (p .see-word) (o .0);
+      change-word = none-implies (f integrity) (held (g .p) integrity) (held (g .q) integrity) (64 * w) change pc (h .change-word) (p .change-word) (o .1);
+    }
+
 -- marks that agree have the same words
 pub words-same : (f g : Marks) (w see change : ℕ) → ((s : Side) (c : ℕ) → f s c ≡ g s c) → WordsOf f w see change → WordsOf g w see change
 words-same f g w see change e h = record {
   see-word = h .see-word ∙ packed-cong (f confidentiality) (g confidentiality) (64 * w) 64 (λ c _ _. e confidentiality c);
   change-word = h .change-word ∙ packed-cong (f integrity) (g integrity) (64 * w) 64 (λ c _ _. e integrity c);
 }
-
--- no bit of two words is set
-or-zero : (a b : ℕ) → bitOr a b ≡ 0 → (a ≡ 0) × (b ≡ 0)
-or-zero a b e = (omega (arith, or-add-and a b, and-le-r a b), omega (arith, or-add-and a b, and-le-l a b))
 
 and-true : (b : Bool) → (b && true) ≡ b
 and-true true = refl

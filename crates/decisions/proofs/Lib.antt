@@ -4,3 +4,4 @@ pub mod Filled
 pub mod Marks
 pub mod Keeping
 pub mod Refuting
+pub mod Asking

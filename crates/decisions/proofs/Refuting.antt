@@ -8,16 +8,23 @@ use native.Mathlib.Omega.{arith}
 use native.Mathlib.Decide.{ℕ-discrete}
 use lib.Bits.{bitAnd}
 use lib.Dec.{ltb}
-use Rattle.model.specs.Terms.{member}
-use Rattle.model.specs.Questions.{at, lowest}
+use Rattle.model.specs.Answers as model
+use Rattle.model.specs.Answers.{Side, confidentiality, integrity}
+use Rattle.model.specs.Terms.{Term, member}
+use Rattle.model.specs.Grants.{Marks}
+use Rattle.model.specs.Ledgers.{Ledger}
+use Rattle.model.specs.Questions.{Lowest, nowhere, at, lowest, refutes, ground, judge, soundUnder, actsForUnder, flowsToUnder}
 use Rattle.model.specs.Extracts.{mark, packed}
 use Rattle.model.proofs.Bars.{lacks}
 use Rattle.model.proofs.Packed.{bits-ext, member-packed, packed-lt}
-use Rattle.words.specs.Evaluation.{coalitionWord, LowestBit}
-use Rattle.words.proofs.Packing.{packed-and}
-use Rattle.words.proofs.Searches.{lowest-found}
-use Rattle.decisions.specs.Promises.{ClearTo}
-use Rattle.decisions.proofs.Tests.{packed-lacks}
+use Rattle.words.specs.Evaluation.{coalitionWord, wordsOf, LowestBit}
+use Rattle.words.proofs.Packing.{packed-cong, packed-and, packed-none}
+use Rattle.words.proofs.Searches.{lowest-found, lowest-none}
+use Rattle.decisions.specs.declared.Question.{Question}
+use Rattle.decisions.specs.declared.Question.the-variants.{ActsFor, FlowsTo}
+use Rattle.decisions.specs.Promises.{ClearTo, WordsOf, soundOf}
+use Rattle.decisions.specs.Answers.{questionOf, fromOf, toOf, opposedOf, refutersOf, seeFirst}
+use Rattle.decisions.proofs.Tests.{packed-lacks, clear-more}
 
 -- of the coalitions of n names, those of f and not of g
 pub opposed-word : (n : ℕ) (f g : ℕ → Bool) (w mask a b : ℕ) → mask ≡ coalitionWord n w → a ≡ packed f (64 * w) 64 → b ≡ packed g (64 * w) 64
@@ -40,3 +47,75 @@ lowest-small x r h b = elim (ℕ-discrete x 0) [
 -- the lowest coalition is that of the lowest bit of the first word that is not 0
 pub lowest-coalition : (n : ℕ) (f : ℕ → Bool) (w x r : ℕ) → LowestBit x r → ClearTo n f w → x ≡ packed (mark n f) (64 * w) 64 → (x ≡ 0 → ⊥) → lowest f (2 ^ n) ≡ at (64 * w + r)
 lowest-coalition n f w x r b clear e nonzero = lowest-found n f (64 * w) 64 r clear (b .found (mark n f) (64 * w) e nonzero)
+
+-- the see side alone
+abbrev pub seeOnly : Marks → Marks
+seeOnly f confidentiality = f confidentiality
+seeOnly f integrity = λ c. false
+
+pub see-words : (f : Marks) (w see change : ℕ) → WordsOf f w see change → WordsOf (seeOnly f) w see 0
+see-words f w see change h = record { see-word = h .see-word; change-word = sym (packed-none (64 * w) 64) }
+
+module _ (question : Question) (n : ℕ) (l : Ledger) (L p q : Term) where
+  -- those that are opposed, and sound, refute
+  pub refuter-word : (s : Side) (w x : ℕ) → x ≡ packed (soundOf l L (opposedOf question n p q) s) (64 * w) 64 → x ≡ packed (mark n (refutersOf question l L p q s)) (64 * w) 64
+  unfolding mark refutes
+  refuter-word s w x e =
+      e ∙ packed-cong (soundOf l L (opposedOf question n p q) s) (mark n (refutersOf question l L p q s)) (64 * w) 64
+      (λ c _ _. turn (ltb c (2 ^ n)) (fromOf question p q s c && not (toOf question p q s c)) (soundUnder l L s c))
+    where
+      turn : (a b d : Bool) → ((a && b) && d) ≡ (a && (d && b))
+      turn false b d = refl
+      turn true false true = refl
+      turn true false false = refl
+      turn true true true = refl
+      turn true true false = refl
+
+  pub refuter-words : (w see change : ℕ) → WordsOf (soundOf l L (opposedOf question n p q)) w see change → WordsOf (λ s. mark n (refutersOf question l L p q s)) w see change
+  refuter-words w see change h = record {
+    see-word = refuter-word confidentiality w see (h .see-word);
+    change-word = refuter-word integrity w change (h .change-word);
+  }
+
+  see : Lowest
+  see = lowest (refutersOf question l L p q confidentiality) (2 ^ n)
+
+  change : Lowest
+  change = lowest (refutersOf question l L p q integrity) (2 ^ n)
+
+  question-ground : n ≡ l .names → questionOf question l L p q ≡ ground see change
+  unfolding see change actsForUnder flowsToUnder judge
+  question-ground e = by question
+    where
+      by : (question : Question) → questionOf question l L p q ≡ ground (lowest (refutersOf question l L p q confidentiality) (2 ^ n)) (lowest (refutersOf question l L p q integrity) (2 ^ n))
+      by ActsFor = rw e
+      by FlowsTo = rw e
+
+  -- a refuter on the see side
+  pub answer-see : (c : ℕ) → n ≡ l .names → lowest (refutersOf question l L p q confidentiality) (2 ^ n) ≡ at c → model.No model.confidentiality c ≡ questionOf question l L p q
+  unfolding see
+  answer-see c e h = sym (question-ground e ∙ rw h)
+
+  -- one on the change side, and the see side searched to its end
+  pub answer-change : (c : ℕ) (r : model.Answer) → n ≡ l .names → lowest (refutersOf question l L p q integrity) (2 ^ n) ≡ at c
+      → r ≡ seeFirst (lowest (refutersOf question l L p q confidentiality) (2 ^ n)) (model.No model.integrity c) → r ≡ questionOf question l L p q
+  unfolding see change
+  answer-change c r e h k = k ∙ by see ∙ sym (question-ground e ∙ rw h)
+    where
+      by : (a : Lowest) → seeFirst a (model.No model.integrity c) ≡ ground a (at c)
+      by (at d) = refl
+      by nowhere = refl
+
+  -- none on either side
+  pub answer-yes : n ≡ l .names → lowest (refutersOf question l L p q confidentiality) (2 ^ n) ≡ nowhere → lowest (refutersOf question l L p q integrity) (2 ^ n) ≡ nowhere → model.Yes ≡ questionOf question l L p q
+  unfolding see change
+  answer-yes e h k = sym (question-ground e ∙ rw (h, k))
+
+-- a word that is 0 on both sides
+pub clear-both : (n : ℕ) (R : Marks) (w see change : ℕ) → WordsOf (λ s. mark n (R s)) w see change → ((s : Side) → ClearTo n (R s) w) → see ≡ 0 → change ≡ 0 → (s : Side) → ClearTo n (R s) (w + 1)
+clear-both n R w see change h clear a b confidentiality = clear-more n (R confidentiality) w see (h .see-word) (clear confidentiality) a
+clear-both n R w see change h clear a b integrity = clear-more n (R integrity) w change (h .change-word) (clear integrity) b
+
+-- all words up to the last, or past it, are clear
+pub clear-lowest : (n : ℕ) (f : ℕ → Bool) (w : ℕ) → n ≤ 12 → wordsOf n ≤ w → ClearTo n f w → lowest f (2 ^ n) ≡ nowhere
+clear-lowest n f w h most clear = lowest-none n f h (λ c l. clear c (omega arith))

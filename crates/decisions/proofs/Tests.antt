@@ -17,7 +17,7 @@ use Rattle.model.proofs.Search.{every-elim, every-intro}
 use Rattle.model.proofs.Reading.{accepted-codes}
 use Rattle.model.proofs.Bars.{lacks, barsCounting, barsActing, counts-bars, static-bars}
 use Rattle.words.specs.Evaluation.{heldWord, coalitionWord, wordsOf, HeldAt, EvaluatedWhole, LowestMark}
-use Rattle.words.proofs.Packing.{packed-and, packed-or, packed-not, packed-lowest}
+use Rattle.words.proofs.Packing.{packed-and, packed-or, packed-not, packed-zero, packed-lowest}
 use Rattle.words.proofs.Names.{words-enough}
 use Rattle.words.proofs.Searches.{packed-mark, none-more}
 use Rattle.decisions.specs.Promises.{ClearTo}
@@ -58,27 +58,37 @@ module _ (n : ℕ) (f : ℕ → Bool) where
           clash (every-elim (λ c. not (f c)) (2 ^ n) t c (ltb-true c (2 ^ n) (and-left (ltb c (2 ^ n)) (f c) e)))
           (ap not (and-right (ltb c (2 ^ n)) (f c) e))))
 
--- what the code computes of a word: of the coalitions of the mask, those that see the label L and not the grant's label d, that change d and
--- not L, or that change d and don't hold the voice of q
-abbrev pub barredWord : (mask ls lc ds dc qs qc : ℕ) → ℕ
-barredWord mask ls lc ds dc qs qc =
-    bitAnd mask
-    (bitOr (bitOr (bitAnd ls (0xFFFF_FFFF_FFFF_FFFF - ds)) (bitAnd dc (0xFFFF_FFFF_FFFF_FFFF - lc))) (bitAnd dc (0xFFFF_FFFF_FFFF_FFFF - bitAnd qs qc)))
+-- those of a word that don't hold the voice of q, from the words of q
+pub voice-word : (q : Term) (f : ℕ → Bool) (w x qs qc qn : ℕ) → x ≡ packed f (64 * w) 64 → HeldAt q 0 w qs qc qn
+    → bitAnd x (0xFFFF_FFFF_FFFF_FFFF - bitAnd qs qc) ≡ packed (lacks f (voice q integrity)) (64 * w) 64
+unfolding voice
+voice-word q f w x qs qc qn e h =
+    rw (e, h .see-word, h .change-word)
+    (rw (packed-and (held q confidentiality) (held q integrity) (64 * w) 64) (packed-lacks f (voice q integrity) (64 * w)))
 
-pub counting-word : (n : ℕ) (L : Term) (g : Grant) (w mask ls lc ds dc dn qs qc qn : ℕ) → mask ≡ coalitionWord n w
-    → ls ≡ heldWord L confidentiality w → lc ≡ heldWord L integrity w → HeldAt (g .label) 0 w ds dc dn → HeldAt (g .q) 0 w qs qc qn
-    → barredWord mask ls lc ds dc qs qc ≡ packed (mark n (barsCounting L g)) (64 * w) 64
-unfolding barsCounting voice
-counting-word n L g w mask ls lc ds dc dn qs qc qn m a b d q =
+-- and of a word that is 0
+pub none-lacks : (f g : ℕ → Bool) (i x : ℕ) → x ≡ packed f i 64 → x ≡ 0 → 0 ≡ packed (lacks f g) i 64
+none-lacks f g i x e z = sym (packed-zero (lacks f g) i 64 .1 (λ c a b. rw (packed-zero f i 64 .0 (sym e ∙ z) c a b)))
+
+-- what the code computes of a word: of the coalitions of the mask, those that see the label L and not the grant's label d, that change d and
+-- not L, or that are among `us`, which change d and don't hold the voice of q
+abbrev pub barredWord : (mask ls lc ds dc us : ℕ) → ℕ
+barredWord mask ls lc ds dc us = bitAnd mask (bitOr (bitOr (bitAnd ls (0xFFFF_FFFF_FFFF_FFFF - ds)) (bitAnd dc (0xFFFF_FFFF_FFFF_FFFF - lc))) us)
+
+pub counting-word : (n : ℕ) (L : Term) (g : Grant) (w mask ls lc ds dc dn us : ℕ) → mask ≡ coalitionWord n w
+    → ls ≡ heldWord L confidentiality w → lc ≡ heldWord L integrity w → HeldAt (g .label) 0 w ds dc dn
+    → us ≡ packed (lacks (held (g .label) integrity) (voice (g .q) integrity)) (64 * w) 64
+    → barredWord mask ls lc ds dc us ≡ packed (mark n (barsCounting L g)) (64 * w) 64
+unfolding barsCounting
+counting-word n L g w mask ls lc ds dc dn us m a b d u =
     let i = 64 * w in
     let see : Term → ℕ → Bool = λ t. held t confidentiality in
     let change : Term → ℕ → Bool = λ t. held t integrity in
-    rw (m, a, b, d .see-word, d .change-word, q .see-word, q .change-word)
-    (rw (packed-and (see (g .q)) (change (g .q)) i 64)
-    (rw (packed-lacks (see L) (see (g .label)) i, packed-lacks (change (g .label)) (change L) i, packed-lacks (change (g .label)) (voice (g .q) integrity) i)
+    rw (m, a, b, d .see-word, d .change-word, u)
+    (rw (packed-lacks (see L) (see (g .label)) i, packed-lacks (change (g .label)) (change L) i)
     (rw (packed-or (lacks (see L) (see (g .label))) (lacks (change (g .label)) (change L)) i 64)
     (rw (packed-or (λ c. lacks (see L) (see (g .label)) c || lacks (change (g .label)) (change L) c) (lacks (change (g .label)) (voice (g .q) integrity)) i 64)
-    (packed-mark n (barsCounting L g) w)))))
+    (packed-mark n (barsCounting L g) w))))
 
 -- of the coalitions of the mask, those that hold p and not q on a side
 abbrev pub actingWord : (mask ps pc qs qc : ℕ) → ℕ

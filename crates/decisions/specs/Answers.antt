@@ -1,13 +1,17 @@
 -- What each case of a question and of an answer stands for in document 01, "Acts-for question" and "Flows-to question".
 -- Assumes nothing: these are definitions.
+use mathlib.Core.Path.{_≡_}
 use mathlib.Core.Bool.{not, _&&_}
+use mathlib.Core.List.{List}
 use Prim.Native.Nat.{ℕ, _^_}
 use lib.Dec.{ltb}
 use Rattle.model.specs.Answers as model
-use Rattle.model.specs.Terms.{Term, held}
+use Rattle.model.specs.Bytes.{accepted}
+use Rattle.model.specs.Terms.{Term, readTerm, held}
 use Rattle.model.specs.Grants.{Marks}
 use Rattle.model.specs.Ledgers.{Ledger}
-use Rattle.model.specs.Questions.{across, actsForUnder, flowsToUnder}
+use Rattle.model.specs.Questions.{Lowest, nowhere, at, refutes, across, soundUnder, actsForUnder, flowsToUnder}
+use Rattle.decisions.specs.Promises.{LedgerOf, countingMarks}
 use Rattle.decisions.specs.declared.Side.{Side}
 use Rattle.decisions.specs.declared.Side.the-variants.{See, Change}
 use Rattle.decisions.specs.declared.Answer.{Answer}
@@ -41,3 +45,19 @@ toOf FlowsTo p q = across p q
 -- of the coalitions of n names, those that refute if they are sound
 abbrev pub opposedOf : Question → ℕ → Term → Term → Marks
 opposedOf question n p q s c = ltb c (2 ^ n) && (fromOf question p q s c && not (toOf question p q s c))
+
+-- the coalitions that refute under the label
+abbrev pub refutersOf : Question → Ledger → Term → Term → Term → Marks
+refutersOf question l L p q = refutes (soundUnder l L) (fromOf question p q) (toOf question p q)
+
+-- the see side's first refuter, else another answer
+abbrev pub seeFirst : Lowest → model.Answer → model.Answer
+seeFirst (at c) other = model.No model.confidentiality c
+seeFirst nowhere other = other
+
+-- What a question is judged on: the ledger, the marks of the grants that count under the label, and the two terms.
+pub record Asked (ledger : List ℕ) (n grants marks : ℕ) (p q : List ℕ) (l : Ledger) (L tp tq : Term) : Type 0 where
+  pub ledger-read : LedgerOf ledger n grants l
+  pub counted : marks ≡ countingMarks n L l
+  pub p-read : readTerm n p ≡ accepted tp
+  pub q-read : readTerm n q ≡ accepted tq

@@ -1,18 +1,21 @@
 // Which grants count, the words of sound coalitions, and the answers to acts-for and flows-to questions (document 01).
+use ledgers::LedgerReading;
+use terms::TermReading;
 ghost use mathlib.Core.Path.{_≡_};
-ghost use mathlib.Core.Bool.{Bool};
+ghost use mathlib.Core.Bool.{Bool, not, _&&_};
 ghost use Prim.Native.Nat.{ℕ, _*_, _^_, _≤_, _<_};
 ghost use lib.ListN.{length};
 ghost use Rattle.model.specs.Bytes.{accepted};
+ghost use Rattle.model.specs.Answers.{confidentiality, integrity, number};
 ghost use Rattle.model.specs.Terms.{Term, readTerm};
-ghost use Rattle.model.specs.Grants.{Grant, Marks, actsStatically, counts};
+ghost use Rattle.model.specs.Grants.{Grant, Marks, actsStatically, voice, counts};
 ghost use Rattle.model.specs.Ledgers.{Ledger, pBytes, qBytes};
-ghost use Rattle.model.specs.Questions.{at, lowest, soundUnder};
+ghost use Rattle.model.specs.Questions.{at, lowest, soundUnder, ask, actsFor, flowsTo};
 ghost use Rattle.model.specs.Extracts.{mark, packed};
 ghost use Rattle.model.specs.Derivations.{grantBlock};
 ghost use Rattle.words.specs.Evaluation.{wordsOf};
 ghost use Rattle.decisions.specs.Promises.{ClearTo, HasWords, GrantGiven, LedgerOf, countingMarks, WordsOf, keeping, soundOf};
-ghost use Rattle.decisions.specs.Answers.{opposedOf};
+ghost use Rattle.decisions.specs.Answers.{answerOf, questionOf, opposedOf, refutersOf, seeFirst, Asked};
 
 // All words of a term, word w at place w: they are computed once and not once a grant.
 fn fill_words(codes: &[u8], n: u64, see: &mut [u64; 64], change: &mut [u64; 64])
@@ -30,6 +33,17 @@ fn fill_words(codes: &[u8], n: u64, see: &mut [u64; 64], change: &mut [u64; 64])
     }
 }
 
+// Those of a word that don't hold the voice of q. Where the word is 0 there is no need of q.
+fn unspoken(q: &[u8], w: u64, change: u64) -> u64
+    ensures { λ r. ⌜ ((n : ℕ) (t : Term) (f : ℕ → Bool) → readTerm n (now (q .entry)) ≡ accepted t → change ≡ packed f (64 * w) 64 → r ≡ packed (λ c. f c && not (voice t integrity c)) (64 * w) 64) ⌝ }
+{
+    if change == 0 {
+        return 0;
+    }
+    let held = words::words_of(q, w);
+    change & !(held.see & held.change)
+}
+
 // The grant of what q may do, labelled d, counts under the label whose words these are: it is visible and spoken.
 fn grant_counts(see: &[u64; 64], change: &[u64; 64], n: u64, q: &[u8], d: &[u8]) -> bool
     ensures { λ r. ⌜ ((L : Term) (g : Grant) → GrantGiven n (now (see .entry)) (now (change .entry)) (now (q .entry)) (now (d .entry)) L g → r ≡ counts n L g) ⌝ }
@@ -39,10 +53,9 @@ fn grant_counts(see: &[u64; 64], change: &[u64; 64], n: u64, q: &[u8], d: &[u8])
     while w < words {
         let at = w as usize;
         let label = words::words_of(d, w);
-        let spoken = words::words_of(q, w);
         let unseen = see[at] & !label.see;
         let unchanged = label.change & !change[at];
-        let unspoken = label.change & !(spoken.see & spoken.change);
+        let unspoken = unspoken(q, w, label.change);
         let mask = words::low_mask(n, w);
         if mask & (unseen | unchanged | unspoken) != 0 {
             return false;
@@ -80,11 +93,16 @@ pub struct Words {
     pub change: u64,
 }
 
-// Those of two words that keep grant k: they hold its q where they hold its p.
+// Those of two words that keep grant k: they hold its q where they hold its p. Where none holds its p there is no need of q.
 fn keep(ledger: &[u8], k: usize, w: u64, of: Words) -> Words
     ensures { λ r. ⌜ ((n : ℕ) (g : Grant) (f : Marks) → readTerm n (pBytes (grantBlock (now (ledger .entry)) k)) ≡ accepted (g .p) → readTerm n (qBytes (grantBlock (now (ledger .entry)) k)) ≡ accepted (g .q) → WordsOf f w (of .see) (of .change) → WordsOf (keeping f g) w (r .see) (r .change)) ⌝ }
 {
     let p = words::words_of(ledgers::grant_p(ledger, k), w);
+    let see = of.see & p.see;
+    let change = of.change & p.change;
+    if see | change == 0 {
+        return of;
+    }
     let q = words::words_of(ledgers::grant_q(ledger, k), w);
     Words {
         see: of.see & (q.see | !p.see),
@@ -190,4 +208,117 @@ fn lowest_of(w: u64, word: u64) -> u16
     ensures { λ r. ⌜ ((n : ℕ) (f : ℕ → Bool) → ClearTo n f w → word ≡ packed (mark n f) (64 * w) 64 → (word ≡ 0 → ⊥) → lowest f (2 ^ n) ≡ at r) ⌝ }
 {
     (64 * w + words::lowest(word)) as u16
+}
+
+// The see side from word `from` on, where no word before it has a refuter: the first one is the ground, and without one the answer is `other`.
+fn judge_see(
+    question: Question,
+    ledger: &[u8],
+    n: u64,
+    grants: usize,
+    marks: u64,
+    p: &[u8],
+    q: &[u8],
+    from: u64,
+    other: Answer,
+) -> Answer
+    ensures { λ r. ⌜ ((l : Ledger) (L tp tq : Term) → Asked (now (ledger .entry)) n grants marks (now (p .entry)) (now (q .entry)) l L tp tq → ClearTo n (refutersOf question l L tp tq confidentiality) from → answerOf r ≡ seeFirst (lowest (refutersOf question l L tp tq confidentiality) (2 ^ n)) (answerOf other)) ⌝ }
+{
+    let words = words::word_count(n);
+    let mut w = from;
+    while w < words {
+        let both = opposed(question, n, p, q, w);
+        let seen = Words {
+            see: both.see,
+            change: 0,
+        };
+        let left = keep_all(ledger, grants, marks, w, seen);
+        if left.see != 0 {
+            return Answer::No(Side::See, lowest_of(w, left.see));
+        }
+        w += 1;
+    }
+    other
+}
+
+// Yes, or the ground of the no: the first refuter on the see side, else the first on the change side, which is kept while the see side is
+// searched to its end.
+fn judge(
+    question: Question,
+    ledger: &[u8],
+    n: u64,
+    grants: usize,
+    marks: u64,
+    p: &[u8],
+    q: &[u8],
+) -> Answer
+    ensures { λ r. ⌜ ((l : Ledger) (L tp tq : Term) → Asked (now (ledger .entry)) n grants marks (now (p .entry)) (now (q .entry)) l L tp tq → answerOf r ≡ questionOf question l L tp tq) ⌝ }
+{
+    let words = words::word_count(n);
+    let mut w: u64 = 0;
+    while w < words {
+        let both = opposed(question, n, p, q, w);
+        let against = keep_all(ledger, grants, marks, w, both);
+        if against.see != 0 {
+            return Answer::No(Side::See, lowest_of(w, against.see));
+        }
+        if against.change != 0 {
+            let ground = Answer::No(Side::Change, lowest_of(w, against.change));
+            return judge_see(question, ledger, n, grants, marks, p, q, w + 1, ground);
+        }
+        w += 1;
+    }
+    Answer::Yes
+}
+
+// A question on bytes: the ledger's refusals, then p's, q's and the label's.
+fn ask(question: Question, ledger: &[u8], p: &[u8], q: &[u8], label: &[u8]) -> Answer
+    ensures { λ r. ⌜ answerOf r ≡ ask (questionOf question) (now (ledger .entry)) (now (p .entry)) (now (q .entry)) (now (label .entry)) ⌝ }
+{
+    let book = ledgers::read_ledger(ledger);
+    let LedgerReading::Accepted { names, grants } = book else {
+        return Answer::Refused(ledgers::ledger_refusal(book));
+    };
+    let first = terms::read_term(p, names);
+    let TermReading::Accepted = first else {
+        return Answer::Refused(20 + terms::term_refusal(first));
+    };
+    let second = terms::read_term(q, names);
+    let TermReading::Accepted = second else {
+        return Answer::Refused(30 + terms::term_refusal(second));
+    };
+    let third = terms::read_term(label, names);
+    let TermReading::Accepted = third else {
+        return Answer::Refused(40 + terms::term_refusal(third));
+    };
+    let marks = counting(ledger, names, grants, label);
+    judge(question, ledger, names, grants, marks, p, q)
+}
+
+// Does p act for q under the label?
+pub fn acts_for(ledger: &[u8], p: &[u8], q: &[u8], label: &[u8]) -> Answer
+    ensures { λ r. ⌜ answerOf r ≡ actsFor (now (ledger .entry)) (now (p .entry)) (now (q .entry)) (now (label .entry)) ⌝ }
+{
+    ask(Question::ActsFor, ledger, p, q, label)
+}
+
+// Does p flow to q under the label?
+pub fn flows_to(ledger: &[u8], p: &[u8], q: &[u8], label: &[u8]) -> Answer
+    ensures { λ r. ⌜ answerOf r ≡ flowsTo (now (ledger .entry)) (now (p .entry)) (now (q .entry)) (now (label .entry)) ⌝ }
+{
+    ask(Question::FlowsTo, ledger, p, q, label)
+}
+
+// An answer as the one number that it is to C.
+pub fn answer_number(answer: Answer) -> u32
+    ensures { λ r. ⌜ r ≡ number (answerOf answer) ⌝ }
+{
+    match answer {
+        Answer::Yes => 0,
+        Answer::No(side, coalition) => match side {
+            Side::See => 65536 + coalition as u32,
+            Side::Change => 65536 + 4096 + coalition as u32,
+        },
+        Answer::Refused(refusal) => 131072 + refusal as u32,
+    }
 }

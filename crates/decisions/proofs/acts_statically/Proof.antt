@@ -13,11 +13,6 @@ use Rattle.decisions.specs.Promises.{ClearTo}
 use Rattle.decisions.proofs.Tests.{clear-none, clear-more, clear-all, clear-not, held-words, actingWord, acting-word}
 use Rattle.decisions.proofs.acts_statically.Statement.{statement}
 use Rattle.decisions.proofs.acts_statically.Tie as tie
-use Rattle.decisions.proofs.acts_statically.Reads as reads
-use Rattle.decisions.proofs.acts_statically.Lts as lts
-use Rattle.words.proofs.low_mask.Reads as low-mask-reads
-use Rattle.words.proofs.word_count.Reads as word-count-reads
-use Rattle.words.proofs.words_of.Reads as words-of-reads
 
 abbrev Inv-loop : tie.InvT-loop
 Inv-loop n p q words w₀ w = (words ≡ wordsOf n) × (w ≤ words) × ((tp tq : Term) → readTerm n p ≡ accepted tp → readTerm n q ≡ accepted tq → ClearTo n (barsActing tp tq) w)
@@ -36,47 +31,37 @@ word c tp tq e f =
     acting-word (a .n) tp tq (l .loop .w) _ _ _ _ _ _ _ (c .low-mask .ensures)
     (held-words (a .n) (a .p .now) tp _ _ _ _ (to .before .words-of .ensures) e) (held-words (a .n) (a .q .now) tq _ _ _ _ (to .words-of2 .ensures) f)
 
--- src/lib.rt:129:9
 word-count-requires : tie.Need-word-count-requires Inv-loop μ-loop
 word-count-requires c κs = tt
 
--- src/lib.rt:131:5
 loop-holds : tie.Need-loop-holds Inv-loop μ-loop
 loop-holds c = (c .word-count .ensures, omega arith, λ tp tq e f. clear-none _ (barsActing tp tq))
 
--- src/lib.rt:132:13
 words-of-requires : tie.Need-words-of-requires Inv-loop μ-loop
 words-of-requires c κs = tt
 
--- src/lib.rt:133:13
 words-of-requires-2 : tie.Need-words-of-requires-2 Inv-loop μ-loop
 words-of-requires-2 c κs = tt
 
--- src/lib.rt:136:13
 low-mask-requires : tie.Need-low-mask-requires Inv-loop μ-loop
 low-mask-requires c κs = tt
 
--- src/lib.rt:138:13
 returns : tie.Need-returns Inv-loop μ-loop
 returns c tp tq m e f =
     let a = c .before .before .before .before .before .before .before .before .before .before .before .before .before .args in
     clear-not (a .n) (barsActing tp tq) _ _ (word (c .before) tp tq e f) (c .if1 .taken) ∙ sym (static-bars (a .n) tp tq)
 
--- src/lib.rt:140:9
 add-w : tie.Need-add-w Inv-loop μ-loop
 add-w c = omega (arith, words-few (c .before .before .before .before .before .before .before .before .before .before .before .before .before .args .n))
 
--- src/lib.rt:131:5
 loop-less : tie.Need-loop-less Inv-loop μ-loop
 loop-less c = omega arith
 
--- src/lib.rt:131:5
 loop-again : tie.Need-loop-again Inv-loop μ-loop
 loop-again c =
     let l = c .before .before .before .before .before .before .before .before .before in
     (l .loop .inv .0, omega arith, λ tp tq e f. clear-more _ (barsActing tp tq) _ _ (word (c .before) tp tq e f) (l .loop .inv .2 tp tq e f) (c .if1 .left))
 
--- src/lib.rt:126:1
 returns-2 : tie.Need-returns-2 Inv-loop μ-loop
 returns-2 c tp tq m e f =
     let l = c .before .loop in

@@ -15,12 +15,6 @@ use Rattle.decisions.specs.Promises.{HasWords, LedgerOf}
 use Rattle.decisions.proofs.Marks.{noGrant, grantAt, marks-none, marks-more, grants-few, grant-given}
 use Rattle.decisions.proofs.counting.Statement.{statement}
 use Rattle.decisions.proofs.counting.Tie as tie
-use Rattle.decisions.proofs.counting.Reads as reads
-use Rattle.decisions.proofs.counting.Lts as lts
-use Rattle.decisions.proofs.fill_words.Reads as fill-words-reads
-use Rattle.decisions.proofs.grant_counts.Reads as grant-counts-reads
-use Rattle.ledgers.proofs.grant_label.Reads as grant-label-reads
-use Rattle.ledgers.proofs.grant_q.Reads as grant-q-reads
 
 abbrev Inv-loop : tie.InvT-loop
 Inv-loop ledger n grants label see change marks₀ k₀ marks k = (k ≤ grants) × (grants ≤ 64) × ((L : Term) → readTerm n label ≡ accepted L → HasWords (wordsOf n) L see change) × ((l : Ledger) (L : Term) → LedgerOf ledger n grants l → readTerm n label ≡ accepted L → marks ≡ packed (ofGrant (counts n L) (l .grants)) k (64 - k))
@@ -28,43 +22,33 @@ Inv-loop ledger n grants label see change marks₀ k₀ marks k = (k ≤ grants)
 abbrev μ-loop : tie.MeasureT-loop
 μ-loop ledger n grants label see change marks₀ k₀ marks k = k
 
--- src/lib.rt:57:9
 returns : tie.Need-returns Inv-loop μ-loop
 returns c l L h e = absurd (omega (arith, c .if1 .taken, grants-few _ _ _ l h))
 
--- src/lib.rt:61:5
 fill-words-requires : tie.Need-fill-words-requires Inv-loop μ-loop
 fill-words-requires c κs = (refl, refl)
 
--- src/lib.rt:64:5
 loop-holds : tie.Need-loop-holds Inv-loop μ-loop
 loop-holds c = (omega arith, omega arith, c .fill-words .ensures, λ l L h e. marks-none (counts _ L) (l .grants) _ (h .count))
 
--- src/lib.rt:65:9
 sub-k : tie.Need-sub-k Inv-loop μ-loop
 sub-k c = omega arith
 
--- src/lib.rt:66:13
 grant-q-requires : tie.Need-grant-q-requires Inv-loop μ-loop
 grant-q-requires c κs = tt
 
--- src/lib.rt:67:13
 grant-label-requires : tie.Need-grant-label-requires Inv-loop μ-loop
 grant-label-requires c κs = tt
 
--- src/lib.rt:68:13
 grant-counts-requires : tie.Need-grant-counts-requires Inv-loop μ-loop
 grant-counts-requires c κs = tt
 
--- src/lib.rt:69:33
 cast-marks : tie.Need-cast-marks Inv-loop μ-loop
 cast-marks c = search needs
 
--- src/lib.rt:64:5
 loop-less : tie.Need-loop-less Inv-loop μ-loop
 loop-less c = omega arith
 
--- src/lib.rt:64:5
 loop-again : tie.Need-loop-again Inv-loop μ-loop
 loop-again c =
     let q = c .before .before .before in
@@ -78,7 +62,6 @@ loop-again c =
           (c .grant-counts .ensures L (grantAt book (l .loop .k - 1)) (grant-given _ _ _ book h L _ _ _ _ _ (omega arith) (i .2 L e) (q .before .grant-q .ensures) (q .grant-label .ensures)) ∙ sym (ofGrant-getD (counts (a .n) L) (book .grants) (l .loop .k - 1) noGrant (omega (arith, h .count)))),
     )
 
--- src/lib.rt:53:1
 returns-2 : tie.Need-returns-2 Inv-loop μ-loop
 returns-2 c l L h e =
     let k : c .before .loop .k ≡ 0 = omega arith in

@@ -13,10 +13,6 @@ use Rattle.decisions.proofs.Filled.{filled-none, filled-more}
 use Rattle.decisions.proofs.Tests.{held-words}
 use Rattle.decisions.proofs.fill_words.Statement.{statement}
 use Rattle.decisions.proofs.fill_words.Tie as tie
-use Rattle.decisions.proofs.fill_words.Reads as reads
-use Rattle.decisions.proofs.fill_words.Lts as lts
-use Rattle.words.proofs.word_count.Reads as word-count-reads
-use Rattle.words.proofs.words_of.Reads as words-of-reads
 
 abbrev Inv-loop : tie.InvT-loop
 Inv-loop codes n see₀ change₀ words w₀ see change w = (words ≡ wordsOf n) × (w ≤ words) × (length see ≡ 64) × (length change ≡ 64) × ((t : Term) → readTerm n codes ≡ accepted t → HasWords w t see change)
@@ -24,43 +20,33 @@ Inv-loop codes n see₀ change₀ words w₀ see change w = (words ≡ wordsOf n
 abbrev μ-loop : tie.MeasureT-loop
 μ-loop codes n see₀ change₀ words w₀ see change w = words - w
 
--- src/lib.rt:18:9
 word-count-requires : tie.Need-word-count-requires Inv-loop μ-loop
 word-count-requires c κs = tt
 
--- src/lib.rt:20:5
 loop-holds : tie.Need-loop-holds Inv-loop μ-loop
 loop-holds c = (c .word-count .ensures, omega arith, c .before .before .pre .0, c .before .before .pre .1, λ t e. filled-none t _ _)
 
--- src/lib.rt:21:13
 words-of-requires : tie.Need-words-of-requires Inv-loop μ-loop
 words-of-requires c κs = tt
 
--- src/lib.rt:23:9
 mul-see : tie.Need-mul-see Inv-loop μ-loop
 mul-see c = omega (arith, words-few (c .before .before .before .before .before .args .n))
 
--- src/lib.rt:23:9
 element-write-see : tie.Need-element-write-see Inv-loop μ-loop
 element-write-see c = omega (arith, words-few (c .before .before .before .before .before .args .n))
 
--- src/lib.rt:24:9
 mul-change : tie.Need-mul-change Inv-loop μ-loop
 mul-change c = omega (arith, words-few (c .before .before .before .before .before .args .n))
 
--- src/lib.rt:24:9
 element-write-change : tie.Need-element-write-change Inv-loop μ-loop
 element-write-change c = omega (arith, words-few (c .before .before .before .before .before .args .n))
 
--- src/lib.rt:25:9
 add-w : tie.Need-add-w Inv-loop μ-loop
 add-w c = omega (arith, words-few (c .before .before .before .before .before .args .n))
 
--- src/lib.rt:20:5
 loop-less : tie.Need-loop-less Inv-loop μ-loop
 loop-less c = omega arith
 
--- src/lib.rt:20:5
 loop-again : tie.Need-loop-again Inv-loop μ-loop
 loop-again c =
     let l = c .before .before .loop in
@@ -74,7 +60,6 @@ loop-again c =
           (held-words (a .n) (a .codes .now) t (l .w) _ _ _ (c .words-of .ensures) e) (l .inv .4 t e),
     )
 
--- src/lib.rt:15:1
 returns : tie.Need-returns Inv-loop μ-loop
 returns c t e =
     let l = c .before .loop in

@@ -3,7 +3,8 @@ use Prim.Native.Nat.{ℕ, _*_, _-_, _≤_, _<_}
 use native.Mathlib.Omega.{arith}
 use mathlib.Core.Path.{_≡_, sym, _∙_, subst}
 use lib.ListN.{getD}
-use Rattle.model.specs.Terms.{Term}
+use Rattle.model.specs.Answers.{integrity}
+use Rattle.model.specs.Terms.{Term, held}
 use Rattle.model.specs.Grants.{Grant}
 use Rattle.model.specs.Extracts.{mark, packed}
 use Rattle.model.proofs.Bars.{barsCounting, counts-bars}
@@ -13,11 +14,6 @@ use Rattle.decisions.specs.Promises.{ClearTo, GrantGiven}
 use Rattle.decisions.proofs.Tests.{clear-none, clear-more, clear-all, clear-not, held-words, barredWord, counting-word}
 use Rattle.decisions.proofs.grant_counts.Statement.{statement}
 use Rattle.decisions.proofs.grant_counts.Tie as tie
-use Rattle.decisions.proofs.grant_counts.Reads as reads
-use Rattle.decisions.proofs.grant_counts.Lts as lts
-use Rattle.words.proofs.low_mask.Reads as low-mask-reads
-use Rattle.words.proofs.word_count.Reads as word-count-reads
-use Rattle.words.proofs.words_of.Reads as words-of-reads
 
 abbrev Inv-loop : tie.InvT-loop
 Inv-loop see change n q d words w₀ w = (words ≡ wordsOf n) × (w ≤ words) × ((L : Term) (g : Grant) → GrantGiven n see change q d L g → ClearTo n (barsCounting L g) w)
@@ -26,77 +22,63 @@ abbrev μ-loop : tie.MeasureT-loop
 μ-loop see change n q d words w₀ w = words - w
 
 -- the word that is tested is that of the coalitions that bar the grant
-word : (c : tie.After-low-mask Inv-loop μ-loop) → let q = c .before .before .before .before .before .before .before in let l = q .before .before .before in let a = l .before .before .before .before .args in (L : Term) (g : Grant)
+word : (c : tie.After-low-mask Inv-loop μ-loop) → let d = c .before .before .before .before .before .before in let l = d .before .before in let a = l .before .before .before .before .args in (L : Term) (g : Grant)
     → GrantGiven (a .n) (a .see .now) (a .change .now) (a .q .now) (a .d .now) L g
-    → barredWord (c .low-mask .result) (getD (a .see .now) (l .loop .w) 0) (getD (a .change .now) (l .loop .w) 0) (q .before .words-of .result .see)
-    (q .before .words-of .result .change) (q .words-of2 .result .see) (q .words-of2 .result .change) ≡ packed (mark (a .n) (barsCounting L g)) (64 * l .loop .w) 64
+    → barredWord (c .low-mask .result) (getD (a .see .now) (l .loop .w) 0) (getD (a .change .now) (l .loop .w) 0) (d .words-of .result .see) (d .words-of .result .change) (c .before .unspoken .result)
+    ≡ packed (mark (a .n) (barsCounting L g)) (64 * l .loop .w) 64
 word c L g h =
-    let q = c .before .before .before .before .before .before .before in
-    let l = q .before .before .before in
+    let d = c .before .before .before .before .before .before in
+    let l = d .before .before in
     let a = l .before .before .before .before .args in
     let w = l .loop .w in
-    let below : w < wordsOf (a .n) = omega (arith, l .loop .inv .0, q .before .before .loop-test .taken) in
-    counting-word (a .n) L g w _ _ _ _ _ _ _ _ _ (c .low-mask .ensures) (h .words .see-word w below) (h .words .change-word w below)
-    (held-words (a .n) (a .d .now) (g .label) w _ _ _ (q .before .words-of .ensures) (h .label-read))
-    (held-words (a .n) (a .q .now) (g .q) w _ _ _ (q .words-of2 .ensures) (h .q-read))
+    let below : w < wordsOf (a .n) = omega (arith, l .loop .inv .0, d .before .loop-test .taken) in
+    let held-d = held-words (a .n) (a .d .now) (g .label) w _ _ _ (d .words-of .ensures) (h .label-read) in
+    counting-word (a .n) L g w _ _ _ _ _ _ _ (c .low-mask .ensures) (h .words .see-word w below) (h .words .change-word w below) held-d
+    (c .before .unspoken .ensures (a .n) (g .q) (held (g .label) integrity) (h .q-read) (held-d .change-word))
 
--- src/lib.rt:33:9
 word-count-requires : tie.Need-word-count-requires Inv-loop μ-loop
 word-count-requires c κs = tt
 
--- src/lib.rt:35:5
 loop-holds : tie.Need-loop-holds Inv-loop μ-loop
 loop-holds c = (c .word-count .ensures, omega arith, λ L g h. clear-none _ (barsCounting L g))
 
--- src/lib.rt:37:13
 words-of-requires : tie.Need-words-of-requires Inv-loop μ-loop
 words-of-requires c κs = tt
 
--- src/lib.rt:38:13
-words-of-requires-2 : tie.Need-words-of-requires-2 Inv-loop μ-loop
-words-of-requires-2 c κs = tt
-
--- src/lib.rt:39:22
 mul-unseen : tie.Need-mul-unseen Inv-loop μ-loop
-mul-unseen c = omega (arith, words-few (c .before .before .before .before .before .before .before .args .n))
+mul-unseen c = omega (arith, words-few (c .before .before .before .before .before .before .args .n))
 
--- src/lib.rt:39:22
 element-copy-out-unseen : tie.Need-element-copy-out-unseen Inv-loop μ-loop
-element-copy-out-unseen c = omega (arith, words-few (c .before .before .before .before .before .before .before .args .n))
+element-copy-out-unseen c = omega (arith, words-few (c .before .before .before .before .before .before .args .n))
 
--- src/lib.rt:40:41
 mul-unchanged : tie.Need-mul-unchanged Inv-loop μ-loop
-mul-unchanged c = omega (arith, words-few (c .before .before .before .before .before .before .before .before .before .args .n))
+mul-unchanged c = omega (arith, words-few (c .before .before .before .before .before .before .before .before .args .n))
 
--- src/lib.rt:40:41
 element-copy-out-unchanged : tie.Need-element-copy-out-unchanged Inv-loop μ-loop
-element-copy-out-unchanged c = omega (arith, words-few (c .before .before .before .before .before .before .before .before .before .args .n))
+element-copy-out-unchanged c = omega (arith, words-few (c .before .before .before .before .before .before .before .before .args .n))
 
--- src/lib.rt:42:13
+unspoken-requires : tie.Need-unspoken-requires Inv-loop μ-loop
+unspoken-requires c κs = tt
+
 low-mask-requires : tie.Need-low-mask-requires Inv-loop μ-loop
 low-mask-requires c κs = tt
 
--- src/lib.rt:44:13
 returns : tie.Need-returns Inv-loop μ-loop
 returns c L g h =
-    let a = c .before .before .before .before .before .before .before .before .before .before .before .before .before .before .before .args in
+    let a = c .before .before .before .before .before .before .before .before .before .before .before .before .before .args in
     clear-not (a .n) (barsCounting L g) _ _ (word (c .before) L g h) (c .if1 .taken) ∙ sym (counts-bars (a .n) L g)
 
--- src/lib.rt:46:9
 add-w : tie.Need-add-w Inv-loop μ-loop
-add-w c = omega (arith, words-few (c .before .before .before .before .before .before .before .before .before .before .before .before .before .before .before .args .n))
+add-w c = omega (arith, words-few (c .before .before .before .before .before .before .before .before .before .before .before .before .before .args .n))
 
--- src/lib.rt:35:5
 loop-less : tie.Need-loop-less Inv-loop μ-loop
 loop-less c = omega arith
 
--- src/lib.rt:35:5
 loop-again : tie.Need-loop-again Inv-loop μ-loop
 loop-again c =
-    let l = c .before .before .before .before .before .before .before .before .before .before .before in
+    let l = c .before .before .before .before .before .before .before .before .before in
     (l .loop .inv .0, omega arith, λ L g h. clear-more _ (barsCounting L g) _ _ (word (c .before) L g h) (l .loop .inv .2 L g h) (c .if1 .left))
 
--- src/lib.rt:30:1
 returns-2 : tie.Need-returns-2 Inv-loop μ-loop
 returns-2 c L g h =
     let l = c .before .loop in
@@ -113,11 +95,11 @@ grant-counts-spec =
     word-count-requires
     loop-holds
     words-of-requires
-    words-of-requires-2
     mul-unseen
     element-copy-out-unseen
     mul-unchanged
     element-copy-out-unchanged
+    unspoken-requires
     low-mask-requires
     returns
     add-w

@@ -13,9 +13,6 @@ use Rattle.decisions.proofs.Marks.{grantAt, grant-at}
 use Rattle.decisions.proofs.Keeping.{soundFirst, SoFar, so-far-none, so-far-empty, so-far-all, so-far-keep, so-far-skip}
 use Rattle.decisions.proofs.keep_all.Statement.{statement}
 use Rattle.decisions.proofs.keep_all.Tie as tie
-use Rattle.decisions.proofs.keep_all.Reads as reads
-use Rattle.decisions.proofs.keep_all.Lts as lts
-use Rattle.decisions.proofs.keep.Reads as keep-reads
 
 abbrev Inv-loop : tie.InvT-loop
 Inv-loop ledger grants marks w kept₀ left₀ k₀ kept left k = (n : ℕ) (l : Ledger) (L : Term) (f : Marks) → LedgerOf ledger n grants l → marks ≡ countingMarks n L l → WordsOf f w (kept₀ .see) (kept₀ .change)
@@ -37,29 +34,23 @@ kept c n l L f h m v =
     so-far-keep n L l f (a .w) _ _ h (o .loop .k) _ _ _ below sofar _ _ (c .before .before .before .if1 .taken)
     (c .keep .ensures n (grantAt l (o .loop .k)) (soundFirst n L l f (o .loop .k)) (g .p .is) (g .q .is) (sofar .words))
 
--- src/lib.rt:103:5
 loop-holds : tie.Need-loop-holds Inv-loop μ-loop
 loop-holds c = λ n l L f h m v. so-far-none n L l f _ _ _ _ m v
 
--- src/lib.rt:105:13
 keep-requires : tie.Need-keep-requires Inv-loop μ-loop
 keep-requires c κs = tt
 
--- src/lib.rt:107:17
 returns : tie.Need-returns Inv-loop μ-loop
 returns c n l L f h m v =
     let o = c .before .before .before .before in
     so-far-empty n L l f _ _ _ _ _ (h .names) (o .loop .inv n l L f h m v) (c .if2 .taken)
 
--- src/lib.rt:111:9
 add-k : tie.Need-add-k Inv-loop μ-loop
 add-k c = omega arith
 
--- src/lib.rt:103:5
 loop-less : tie.Need-loop-less Inv-loop μ-loop
 loop-less c = omega arith
 
--- src/lib.rt:103:5
 loop-again : tie.Need-loop-again Inv-loop μ-loop
 loop-again c n l L f h m v =
     let o = c .before .before in
@@ -69,7 +60,6 @@ loop-again c n l L f h m v =
     (λ x. subst end (sym (x .1)) (so-far-skip n L l f _ _ _ h _ _ _ _ (c .before .loop-test .taken) (o .loop .inv n l L f h m v) (x .0 .left)))
     (c .if1 .came)
 
--- src/lib.rt:97:1
 returns-2 : tie.Need-returns-2 Inv-loop μ-loop
 returns-2 c n l L f h m v = so-far-all n L l f _ _ _ h _ _ _ _ (c .loop-test .left) (c .before .loop .inv n l L f h m v)
 

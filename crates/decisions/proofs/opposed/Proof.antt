@@ -7,32 +7,22 @@ use Rattle.decisions.proofs.Refuting.{opposed-word}
 use borrow.Author.Needs.{needs}
 use Rattle.decisions.proofs.opposed.Statement.{statement}
 use Rattle.decisions.proofs.opposed.Tie as tie
-use Rattle.decisions.proofs.opposed.Reads as reads
-use Rattle.decisions.proofs.opposed.Lts as lts
-use Rattle.words.proofs.low_mask.Reads as low-mask-reads
-use Rattle.words.proofs.words_of.Reads as words-of-reads
 
--- src/lib.rt:171:9
 low-mask-requires : tie.Need-low-mask-requires
 low-mask-requires c κs = search needs
 
--- src/lib.rt:172:9
 words-of-requires : tie.Need-words-of-requires
 words-of-requires c κs = search needs
 
--- src/lib.rt:173:9
 words-of-requires-2 : tie.Need-words-of-requires-2
 words-of-requires-2 c κs = search needs
 
--- src/lib.rt:177:37
 enum-told : tie.Need-enum-told
 enum-told c = search needs
 
--- src/lib.rt:181:35
 enum-told-2 : tie.Need-enum-told-2
 enum-told-2 c = search needs
 
--- src/lib.rt:168:1
 returns : tie.Need-returns
 returns c tp tq e f =
     let d = c .before .before .before .before .before .before in
@@ -46,7 +36,6 @@ returns c tp tq e f =
       change-word = opposed-word (a .n) (held tp integrity) (held tq integrity) (a .w) _ _ _ mask (p .change-word) (q .change-word);
     })
 
--- src/lib.rt:168:1
 returns-2 : tie.Need-returns-2
 unfolding across
 returns-2 c tp tq e f =

@@ -1,0 +1,61 @@
+-- A question on bytes: which refusal it gets, and the answer where nothing is refused. Assumes nothing.
+use mathlib.Core.Path.{_≡_, sym, ap, _∙_}
+use mathlib.Core.List.{List}
+use Prim.Native.Nat.{ℕ, _+_, _≤_}
+use native.Mathlib.Omega.{arith}
+use Rattle.model.specs.Bytes.{accepted, refused, from}
+use Rattle.model.specs.Answers.{Answer, Refused, given}
+use Rattle.model.specs.Terms.{Term, readTerm}
+use Rattle.model.specs.Ledgers.{Ledger, readLedger}
+use Rattle.model.specs.Questions.{ask}
+use Rattle.terms.specs.declared.TermReading.{TermReading}
+use Rattle.terms.specs.declared.TermReading.the-variants.{Refused as RefusedTerm}
+use Rattle.terms.specs.Readings.{termReading, termRefusal}
+use Rattle.terms.proofs.Accepted.{refused-term, term-refusal-small}
+use Rattle.ledgers.specs.declared.LedgerReading.{LedgerReading}
+use Rattle.ledgers.specs.declared.LedgerReading.the-variants.{Refused as RefusedLedger}
+use Rattle.ledgers.specs.Readings.{ledgerReading, ledgerRefusal}
+use Rattle.ledgers.proofs.Accepted.{AcceptedLedger, refused-ledger}
+use Rattle.decisions.specs.Promises.{LedgerOf}
+
+-- the number that the code hands on is the reader's refusal
+pub ledger-refused : (bytes : List ℕ) (s : LedgerReading) (k r : ℕ) → s ≡ ledgerReading (readLedger bytes) → s ≡ RefusedLedger k → r ≡ ledgerRefusal s → readLedger bytes ≡ refused r
+ledger-refused bytes s k r a b e = refused-ledger bytes k (sym a ∙ b) ∙ ap refused (sym (e ∙ ap ledgerRefusal b))
+
+module _ (n : ℕ) (bytes : List ℕ) (s : TermReading) (r : ℕ) (a : s ≡ termReading (readTerm n bytes)) (e : r ≡ termRefusal s) where
+  pub term-refused : (k : ℕ) → s ≡ RefusedTerm k → readTerm n bytes ≡ refused r
+  term-refused k b = refused-term n bytes k (sym a ∙ b) ∙ ap refused (sym (e ∙ ap termRefusal b))
+
+  -- and it is small
+  pub refusal-small : r ≤ 4
+  refusal-small = omega (arith, term-refusal-small n bytes, e, ap termRefusal a)
+
+-- what the ledger reader's answer says is what `counting`, `sound_word` and the questions ask
+pub ledger-of : (bytes : List ℕ) (n grants : ℕ) (a : AcceptedLedger bytes n grants) → LedgerOf bytes n grants (a .ledger)
+ledger-of bytes n grants a = record { is = a .is; names = sym (a .names); count = sym (a .count) }
+
+-- ---- a question whose ledger is refused, or p, q or the label
+module _ (answer : Ledger → Term → Term → Term → Answer) (ledger p q label : List ℕ) where
+  pub ask-ledger : (r : ℕ) → readLedger ledger ≡ refused r → Refused r ≡ ask answer ledger p q label
+  unfolding ask
+  ask-ledger r e = rw e
+
+  module _ (l : Ledger) (n : ℕ) (read : readLedger ledger ≡ accepted l) (names : l .names ≡ n) where
+    pub ask-p : (r : ℕ) → readTerm n p ≡ refused r → Refused (20 + r) ≡ ask answer ledger p q label
+    unfolding ask
+    ask-p r e = rw (read, names, e)
+
+    module _ (tp : Term) (p-read : readTerm n p ≡ accepted tp) where
+      pub ask-q : (r : ℕ) → readTerm n q ≡ refused r → Refused (30 + r) ≡ ask answer ledger p q label
+      unfolding ask
+      ask-q r e = rw (read, names, p-read, e)
+
+      module _ (tq : Term) (q-read : readTerm n q ≡ accepted tq) where
+        pub ask-label : (r : ℕ) → readTerm n label ≡ refused r → Refused (40 + r) ≡ ask answer ledger p q label
+        unfolding ask
+        ask-label r e = rw (read, names, p-read, q-read, e)
+
+        -- nothing is refused
+        pub ask-answer : (L : Term) → readTerm n label ≡ accepted L → answer l L tp tq ≡ ask answer ledger p q label
+        unfolding ask
+        ask-answer L e = rw (read, names, p-read, q-read, e)

@@ -62,7 +62,7 @@ fn code_then_two(s: &[u8], code: u8, a: &[u8], b: &[u8]) -> bool
     same(&s[second..], b)
 }
 
-// Step k, a part of the derivation; an empty part where there is none.
+// Step k, a part of the derivation: as much of it as there is.
 fn step_at(derivation: &[u8], k: usize) -> &[u8]
     ensures { λ r. ⌜ now r ≡ stepAt (now (derivation .entry)) k ⌝ }
 {
@@ -72,7 +72,7 @@ fn step_at(derivation: &[u8], k: usize) -> &[u8]
     ledgers::part(derivation, 136 * k, 136)
 }
 
-// A step's p and its q.
+// A step's p and its q, parts of the step.
 fn left(step: &[u8]) -> &[u8]
     ensures { λ r. ⌜ now r ≡ left (now (step .entry)) ⌝ }
 {
@@ -166,7 +166,7 @@ fn filler_form(step: &[u8]) -> bool
     past_term(step, 5, 72)
 }
 
-// 61 where not.
+// The form of a step: 61 where not.
 fn step_form(step: &[u8]) -> bool
     requires { ⌜ 136 ≤ length (now step) ⌝ }
     ensures { λ r. ⌜ r ≡ stepForm (ruleOf (byte 0 (now (step .entry)))) (now (step .entry)) ⌝ }
@@ -267,7 +267,7 @@ fn grant_marked(step: &[u8], marks: u64) -> bool
     marked(marks, step[3] as usize)
 }
 
-// The step's terms are p and q: rule 2, of the grant's.
+// Rule 2: the step's terms are p and q, the grant's.
 fn has_terms(step: &[u8], p: &[u8], q: &[u8]) -> bool
     ensures { λ r. ⌜ r ≡ (same (left (now (step .entry))) (now (p .entry)) && same (right (now (step .entry))) (now (q .entry))) ⌝ }
 {
@@ -316,17 +316,6 @@ fn joins(
     same(other, common)
 }
 
-// Rules 6 and 7: p and q are the code before the terms of the premise.
-fn projects(code: u8, step: &[u8], a: &[u8]) -> bool
-    ensures { λ r. ⌜ r ≡ (same (left (now (step .entry))) (code ∷ left (now (a .entry))) && same (right (now (step .entry))) (code ∷ right (now (a .entry)))) ⌝ }
-{
-    let p = code_then(left(step), code, left(a));
-    if !p {
-        return false;
-    }
-    code_then(right(step), code, right(a))
-}
-
 // Rule 4: q is 30, then the premises' right terms in order; both left terms are p.
 fn conjunction(step: &[u8], a: &[u8], b: &[u8]) -> bool
     ensures { λ r. ⌜ ((l : Ledger) → r ≡ meets l conjunction (now (step .entry)) (now (a .entry)) (now (b .entry))) ⌝ }
@@ -343,6 +332,17 @@ fn disjunction(step: &[u8], a: &[u8], b: &[u8]) -> bool
     let p = left(step);
     let q = right(step);
     joins(0x31, p, left(a), left(b), q, right(a), right(b))
+}
+
+// Rules 6 and 7: p and q are the code before the terms of the premise.
+fn projects(code: u8, step: &[u8], a: &[u8]) -> bool
+    ensures { λ r. ⌜ r ≡ (same (left (now (step .entry))) (code ∷ left (now (a .entry))) && same (right (now (step .entry))) (code ∷ right (now (a .entry)))) ⌝ }
+{
+    let p = code_then(left(step), code, left(a));
+    if !p {
+        return false;
+    }
+    code_then(right(step), code, right(a))
 }
 
 // The step meets its rule, its terms being read and its grant being there: 67 where not.
@@ -421,11 +421,11 @@ pub enum Checked {
     Accepted,
     // The number of the refusal, of the ledger, the label or the derivation's length.
     Refused(u8),
-    // The step, and the number of its refusal.
+    // The step, for which the figure for C has a byte, and the number of its refusal.
     RefusedAt(u8, u8),
 }
 
-// Step by step.
+// The steps, one after another.
 fn check_steps(derivation: &[u8], ledger: &[u8], n: u64, grants: usize, marks: u64) -> Checked
     requires { ⌜ length (now derivation) ≤ 8704 ⌝ }
     ensures { λ r. ⌜ ((l : Ledger) (L : Term) → LedgerOf (now (ledger .entry)) n grants l → marks ≡ countingMarks n L l → answerOf r ≡ checkSteps l L (now (derivation .entry)) 0 (stepCount (now (derivation .entry)))) ⌝ }
@@ -474,7 +474,7 @@ pub fn check_derivation(derivation: &[u8], ledger: &[u8], label: &[u8]) -> Check
 
 // The block of the grant that a step of an accepted derivation names, a part of the ledger; an empty part for any refusal, a step past
 // the end, or a rule other than 2.
-pub fn quote<'a, 'b>(derivation: &'b [u8], ledger: &'a [u8], label: &'b [u8], step: u64) -> &'a [u8]
+pub fn quote<'a, 'b>(derivation: &'b [u8], ledger: &'a [u8], label: &[u8], step: u64) -> &'a [u8]
     ensures { λ r. ⌜ now r ≡ quote (now (derivation .entry)) (now (ledger .entry)) (now (label .entry)) step ⌝ }
 {
     let checked = check_derivation(derivation, ledger, label);

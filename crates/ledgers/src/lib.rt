@@ -16,18 +16,21 @@ struct RowSums {
     weight: u32,
 }
 
-// A row is a fifth of the 510 bytes before a block's check: a loop this short is laid out over whole vectors, its weights being constants.
+// A row is a fifth of the 510 bytes before a block's check, so that each product fits in 16 bits and eight are made at a time.
 fn row_sums(row: &[u8]) -> RowSums
     requires { ⌜ length (now row) ≡ 102 ⌝ }
     ensures { λ r. ⌜ Summed (now (row .entry)) (r .total) (r .weight) ⌝ }
 {
     let mut total: u32 = 0;
     let mut weight: u32 = 0;
+    let mut place: u16 = 1;
     let mut i: usize = 0;
     while i < 102 {
-        let byte = row[i] as u32;
-        total += byte;
-        weight += (i + 1) as u32 * byte;
+        let byte = row[i] as u16;
+        let product = place * byte;
+        total += byte as u32;
+        weight += product as u32;
+        place += 1;
         i += 1;
     }
     RowSums { total, weight }

@@ -21,6 +21,7 @@ use Rattle.model.proofs.Reading.{accepted-codes}
 use Rattle.model.proofs.Judge.{judge-cong}
 use Rattle.model.proofs.Sound.{pairs-sound}
 use Rattle.model.proofs.Table.{table-cong, table-agree}
+use Rattle.model.proofs.Extracted.{extract-is}
 use Rattle.model.proofs.Accepted.{names-range}
 use Rattle.model.proofs.Without.{leave-covers, without-accepted}
 use Rattle.demands.specs.Answers.{Asked}
@@ -28,12 +29,6 @@ use Rattle.demands.specs.Witness.{Question, witness, witnessOf}
 use Rattle.demands.specs.Extracts.{Paired, Compared, SameExtract, SameAnswers, ExtractsDecide, ExtractsDecideActsFor, ExtractsDecideFlowsTo, RefusedLabelsAgree, Splits, ToldApart, DifferentExtractsToldApart, SameRights, NoneCounts, UncountedChangeNothing, SamePairsSameRights}
 use Rattle.demands.proofs.Asking.{asked-answer}
 use Rattle.demands.proofs.Telling.{Short, Differ, agree-or-differ, differ-short, differ-yes, differ-no, FlowSplit, flow-split}
-
--- a written extract is the table of the sound coalitions, whatever the buffer held
-pub extract-is : (a label : List ℕ) (l : Ledger) (L : Term) (x : List ℕ) → readLedger a ≡ accepted l → readTerm (l .names) label ≡ accepted L → length x ≡ 1024
-    → extract a label x .buffer ≡ table (l .names) (soundUnder l L)
-unfolding extract extractOf
-extract-is a label l L x e k h = rw (eq-eqb (length x) 1024 h, e, k)
 
 -- a question of either kind: every sound coalition of F is one of G
 abbrev judged : (Term → Term → Marks) → (Term → Term → Marks) → Ledger → Term → Term → Term → Answer

@@ -18,58 +18,16 @@ use Rattle.model.specs.Questions.{judge, soundUnder, actsForUnder, actsFor}
 use Rattle.model.specs.Derivations.{stepAt, left, right, Rule, static, granted, transitive, conjunction, disjunction, projection, noRule, ruleOf, isRule, usesOf, stepForm, readLeft, readRight, isAccepted, before, ofGrant, readAndActs, meets, checkStep, onStep, checkSteps, derivationLength, stepCount, checkDerivation}
 use Rattle.model.specs.Meanings.{Holds}
 use Rattle.model.proofs.Truth.{decide, clash, and-left, and-right, and-intro, or-left, or-right, or-elim, below-suc}
-use Rattle.model.proofs.Reading.{accepted-codes, codes-unique}
+use Rattle.model.proofs.Held.{project-held}
+use Rattle.model.proofs.Reading.{accepted-codes}
 use Rattle.model.proofs.Judge.{judge-yes}
 use Rattle.model.proofs.Sound.{static-says, sound-elim, counting-intro}
 use Rattle.model.proofs.Same.{same-elim}
-use Rattle.model.proofs.Accepted.{accepted-same, require-accepted, ledger-below}
+use Rattle.model.proofs.Accepted.{accepted-same, ledger-below}
+use Rattle.model.proofs.Steps.{Passed, passed, steps-each}
 use Rattle.demands.specs.Answers.{Asked}
 use Rattle.demands.specs.Derivations.{AcceptedStepsAreYes}
 use Rattle.demands.proofs.Asking.{asked-answer}
-
--- what the tests of a step found
-record Passed (l : Ledger) (L : Term) (d : List ℕ) (k : ℕ) (step : List ℕ) (r : Rule) : Type 0 where
-  left-read : isAccepted (readLeft (l .names) step) ≡ true
-  right-read : isAccepted (readRight (l .names) step) ≡ true
-  first-before : before (usesOf r .first) (byte 1 step) k ≡ true
-  second-before : before (usesOf r .second) (byte 2 step) k ≡ true
-  grant-counts : (not (usesOf r .grant) || ofGrant (counts (l .names) L) (l .grants) (byte 3 step)) ≡ true
-  rule-met : meets l r step (stepAt d (byte 1 step)) (stepAt d (byte 2 step)) ≡ true
-
-passed : (l : Ledger) (L : Term) (d : List ℕ) (k : ℕ) (step : List ℕ) (r : Rule) → checkStep l L d k step r ≡ accepted tt → Passed l L d k step r
-unfolding checkStep
-passed l L d k step r e =
-    let a = require-accepted (stepForm r step) 61 _ tt e in
-    let b = require-accepted (isAccepted (readLeft (l .names) step)) 62 _ tt (a .1) in
-    let c = require-accepted (isAccepted (readRight (l .names) step)) 63 _ tt (b .1) in
-    let f = require-accepted (before (usesOf r .first) (byte 1 step) k && before (usesOf r .second) (byte 2 step) k) 64 _ tt (c .1) in
-    let g = require-accepted (not (usesOf r .grant) || ltb (byte 3 step) (length (l .grants))) 65 _ tt (f .1) in
-    let h = require-accepted (not (usesOf r .grant) || ofGrant (counts (l .names) L) (l .grants) (byte 3 step)) 66 _ tt (g .1) in
-    let m = require-accepted (meets l r step (stepAt d (byte 1 step)) (stepAt d (byte 2 step))) 67 _ tt (h .1) in
-    record {
-      left-read = b .0;
-      right-read = c .0;
-      first-before = and-left (before (usesOf r .first) (byte 1 step) k) (before (usesOf r .second) (byte 2 step) k) (f .0);
-      second-before = and-right (before (usesOf r .first) (byte 1 step) k) (before (usesOf r .second) (byte 2 step) k) (f .0);
-      grant-counts = h .0;
-      rule-met = m .0;
-    }
-
--- each of the steps k, k + 1, .. was accepted
-steps-each : (l : Ledger) (L : Term) (d : List ℕ) (k count : ℕ) → checkSteps l L d k count ≡ Yes
-    → (j : ℕ) → j < count → checkStep l L d (k + j) (stepAt d (k + j)) (ruleOf (byte 0 (stepAt d (k + j)))) ≡ accepted tt
-unfolding checkSteps
-steps-each l L d k zero e j h = absurd (not-suc-le-zero h)
-steps-each l L d k (suc count) e j h =
-    go (checkStep l L d k (stepAt d k) (ruleOf (byte 0 (stepAt d k)))) refl (λ t i b. steps-each l L d (suc k) count t i b) e j h
-  where
-    go : (r : Reading (Unit {0})) → checkStep l L d k (stepAt d k) (ruleOf (byte 0 (stepAt d k))) ≡ r
-        → (checkSteps l L d (suc k) count ≡ Yes → (i : ℕ) → i < count → checkStep l L d (suc k + i) (stepAt d (suc k + i)) (ruleOf (byte 0 (stepAt d (suc k + i)))) ≡ accepted tt)
-        → onStep k r (checkSteps l L d (suc k) count) ≡ Yes
-        → (j : ℕ) → j < suc count → checkStep l L d (k + j) (stepAt d (k + j)) (ruleOf (byte 0 (stepAt d (k + j)))) ≡ accepted tt
-    go (accepted tt) is ih t zero h = rw add-zero is
-    go (accepted tt) is ih t (suc i) h = rw (add-suc, ← suc-add) (ih t i (omega arith))
-    go (refused r) is ih t j h = cc
 
 -- the step's terms are read, and every sound coalition that holds p holds q
 record StepYes (l : Ledger) (L : Term) (step : List ℕ) : Type 0 where
@@ -113,13 +71,6 @@ of-grant f h (g ∷ gs) zero a b = record { grant = g; among = List·Memᴰ·hea
 of-grant f h (g ∷ gs) (suc k) a b =
     let w = of-grant f h gs k a b in
     record { grant = w .grant; among = List·Memᴰ·tail (w .among); one = w .one; two = w .two }
-
-projected : (r s : Side) (p q : Term) (c : ℕ) → (held p s c ≡ true → held q s c ≡ true) → held (project r p) s c ≡ true → held (project r q) s c ≡ true
-unfolding held
-projected confidentiality confidentiality p q c f h = f h
-projected confidentiality integrity p q c f h = refl
-projected integrity confidentiality p q c f h = refl
-projected integrity integrity p q c f h = f h
 
 -- a premise that the rule uses is an earlier step
 premise-before : (premise k : ℕ) → before true premise k ≡ true → premise < k
@@ -167,7 +118,7 @@ module _ (l : Ledger) (L : Term) (below : (g : Grant) → List·Memᴰ g (l .gra
           let o = and-right (same (left step) (projectCode r ∷ left a)) (same (right step) (projectCode r ∷ right a)) e in
           let ep : tp ≡ project r (ya .tp) = whole-term (l .names) (left step) (project r (ya .tp)) tp (ca .1) (rw (ca .0) at m) p-is in
           let eq : tq ≡ project r (ya .tq) = whole-term (l .names) (right step) (project r (ya .tq)) tq (cb .1) (rw (cb .0) at o) q-is in
-          rw eq (projected r s (ya .tp) (ya .tq) c (ya .carried s c h sounds) (rw ep at holds))
+          rw eq (project-held r s c (λ f. f (ya .tp) ≡ true → f (ya .tq) ≡ true) (ya .carried s c h sounds) (λ k. refl) (rw ep at holds))
 
       module _ (yb : StepYes l L b) where
         transitive-yes : meets l transitive step a b ≡ true → Carried tp tq

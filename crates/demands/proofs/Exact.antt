@@ -8,13 +8,17 @@ use Rattle.model.specs.Answers.{Side, confidentiality, integrity, Yes}
 use Rattle.model.specs.Terms.{Term, conj, project, NamesBelow, held}
 use Rattle.model.specs.Grants.{Grant, within, actsStatically, visible, spoken, voice, counting, sound}
 use Rattle.model.specs.Ledgers.{Ledger}
-use Rattle.model.specs.Questions.{across, soundUnder, actsForUnder, flowsToUnder}
+use Rattle.model.specs.Questions.{soundUnder, flowsToUnder, actsFor, flowsTo}
 use Rattle.model.specs.Meanings.{Holds}
 use Rattle.model.proofs.Truth.{and-intro, and-left, and-right}
 use Rattle.model.proofs.Search.{within-says}
-use Rattle.model.proofs.Judge.{judge-yes}
+use Rattle.model.proofs.Judge.{flows-yes}
+use Rattle.model.proofs.Reading.{accepted-codes}
 use Rattle.model.proofs.Sound.{static-says, counting-elim}
+use Rattle.model.proofs.Accepted.{ledger-below}
+use Rattle.demands.specs.Answers.{Asked}
 use Rattle.demands.specs.Algebra.{GrantsBelow, Carries, voiceOf, ActsForByCoalitions, FlowsToByCoalitions, StaticIsActsFor, VisibleIsFlowsTo, SpokenIsActsForVoice, YesIsActsFor, YesIsFlowsTo}
+use Rattle.demands.proofs.Asking.{asked-answer, acts-for-exact}
 use Rattle.demands.proofs.Soundness.{soundness}
 use Rattle.demands.proofs.Completeness.{completeness}
 use Rattle.demands.proofs.Sides.{side-names, voice-held}
@@ -95,28 +99,34 @@ spoken-voice n q d qn dn =
 pub counting-below : (n : ℕ) (L : Term) (gs : List Grant) → GrantsBelow n gs → GrantsBelow n (counting n L gs)
 counting-below n L gs fit g m = fit g (counting-elim n L gs g m .0)
 
-pub yes-carries : (l : Ledger) (L p q : Term) → (actsForUnder l L p q ≡ Yes) ↔ ((s : Side) → Carries (l .names) (counting (l .names) L (l .grants)) s p q)
-unfolding actsForUnder soundUnder
-yes-carries l L p q = judge-yes (l .names) (soundUnder l L) (held p) (held q)
+-- of a question's accepted inputs, every name is below n
+pub record NamesFit (l : Ledger) (L p q : Term) : Type 0 where
+  pub grants-fit : GrantsBelow (l .names) (counting (l .names) L (l .grants))
+  pub p-fits : NamesBelow (l .names) p
+  pub q-fits : NamesBelow (l .names) q
+
+pub names-fit : (ledger p q label : List ℕ) (l : Ledger) (tp tq L : Term) → Asked ledger p q label l tp tq L → NamesFit l L tp tq
+names-fit ledger p q label l tp tq L a = record {
+  grants-fit = counting-below (l .names) L (l .grants) (λ g m. let b = ledger-below ledger l (a .ledger-is) g m in (b .p-below, b .q-below));
+  p-fits = accepted-codes (l .names) p tp .0 (a .p-is) .1;
+  q-fits = accepted-codes (l .names) q tq .0 (a .q-is) .1;
+}
+
+pub yes-carries : (ledger p q label : List ℕ) (l : Ledger) (tp tq L : Term) → Asked ledger p q label l tp tq L
+    → (actsFor ledger p q label ≡ Yes) ↔ ((s : Side) → Carries (l .names) (counting (l .names) L (l .grants)) s tp tq)
+unfolding soundUnder
+yes-carries ledger p q label l tp tq L a = acts-for-exact ledger p q label l tp tq L a .yes-exactly
 
 pub yes-acts : YesIsActsFor
-yes-acts l L p q fit pn qn =
-    Iff·trans (yes-carries l L p q)
-    (Iff·symm (acts-for (l .names) (counting (l .names) L (l .grants)) p q (counting-below (l .names) L (l .grants) fit) pn qn))
+yes-acts ledger p q label l tp tq L a =
+    let f = names-fit ledger p q label l tp tq L a in
+    Iff·trans (yes-carries ledger p q label l tp tq L a)
+    (Iff·symm (acts-for (l .names) (counting (l .names) L (l .grants)) tp tq (f .grants-fit) (f .p-fits) (f .q-fits)))
 
 pub yes-flows : YesIsFlowsTo
-unfolding flowsToUnder soundUnder across
-yes-flows l L p q fit pn qn =
-    Iff·trans (judge-yes n (soundUnder l L) (across q p) (across p q))
-    (Iff·trans (λ f. (f confidentiality, f integrity), back)
-    (Iff·symm (flows-to n G p q (counting-below n L (l .grants) fit) pn qn)))
-  where
-    n : ℕ
-    n = l .names
-
-    G : List Grant
-    G = counting (l .names) L (l .grants)
-
-    back : Carries n G confidentiality q p × Carries n G integrity p q → (s : Side) → Holds n (soundUnder l L) (across q p) (across p q) s
-    back f confidentiality = f .0
-    back f integrity = f .1
+unfolding flowsTo soundUnder
+yes-flows ledger p q label l tp tq L a =
+    let f = names-fit ledger p q label l tp tq L a in
+    rw (asked-answer flowsToUnder ledger p q label l tp tq L a)
+    (Iff·trans (flows-yes l L tp tq)
+    (Iff·symm (flows-to (l .names) (counting (l .names) L (l .grants)) tp tq (f .grants-fit) (f .p-fits) (f .q-fits))))

@@ -7,7 +7,6 @@ pub mod Completeness
 pub mod Sides
 pub mod Exact
 pub mod SevenRules
-pub mod Below
 pub mod Telling
 pub mod Comparing
 pub mod Deriving

@@ -13,9 +13,10 @@ use Rattle.model.proofs.Truth.{and-intro, and-left, and-right, or-elim, cond-ca
 use Rattle.model.proofs.Sound.{static-says, sound-elim}
 use Rattle.demands.specs.Algebra.{ActsFor, botR, topL, self, proj, projR, conjL₁, conjL₂, conjR, disjL, disjR₁, disjR₂, then, distr, conj-project, disj-project, basis, crossed, grant, GrantsBelow}
 use Rattle.demands.specs.Rules.{Derives, rule1, rule2, rule3, rule4, rule5, rule6-7, RulesAreSound, RulesAreComplete, YesIsDerived}
-use Rattle.demands.proofs.Soundness.{project-held, soundness}
+use Rattle.model.proofs.Held.{project-held}
+use Rattle.demands.proofs.Soundness.{soundness}
 use Rattle.demands.proofs.Completeness.{completeness}
-use Rattle.demands.proofs.Exact.{static-carries, counting-below, yes-carries}
+use Rattle.demands.proofs.Exact.{static-carries, NamesFit, names-fit, yes-carries}
 
 module _ (n : ℕ) (G : List Grant) (t : Side) (c : ℕ) (l : c < 2 ^ n) (good : sound G t c ≡ true) where
   kept : {p q : Term} → Derives n G p q → held p t c ≡ true → held q t c ≡ true
@@ -90,12 +91,7 @@ rules-complete n G p q fit pn qn says =
     rw (trim-same n p pn, trim-same n q qn) at (trimmed n G fit (completeness n G p q fit pn qn says))
 
 pub yes-derived : YesIsDerived
-yes-derived l L p q fit pn qn =
-    Iff·trans (yes-carries l L p q)
-    (rules-complete n G p q (counting-below n L (l .grants) fit) pn qn, λ d. rules-sound n G p q d)
-  where
-    n : ℕ
-    n = l .names
-
-    G : List Grant
-    G = counting (l .names) L (l .grants)
+yes-derived ledger p q label l tp tq L a =
+    let f = names-fit ledger p q label l tp tq L a in
+    Iff·trans (yes-carries ledger p q label l tp tq L a)
+    (rules-complete (l .names) (counting (l .names) L (l .grants)) tp tq (f .grants-fit) (f .p-fits) (f .q-fits), λ d. rules-sound (l .names) (counting (l .names) L (l .grants)) tp tq d)

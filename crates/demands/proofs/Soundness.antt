@@ -6,17 +6,10 @@ use Prim.Native.Nat.{ℕ}
 use Rattle.model.specs.Answers.{Side, confidentiality, integrity}
 use Rattle.model.specs.Terms.{Term, conj, disj, project, held}
 use Rattle.model.specs.Grants.{Grant, sound}
+use Rattle.model.proofs.Held.{project-held}
 use Rattle.demands.specs.Algebra.{other, ActsFor, botR, topL, self, proj, projR, conjL₁, conjL₂, conjR, disjL, disjR₁, disjR₂, then, distr, conj-project, disj-project, basis, crossed, grant, Carries}
 use Rattle.model.proofs.Truth.{and-intro, and-left, and-right, or-elim, or-left, or-right}
 use Rattle.model.proofs.Sound.{sound-elim}
-
--- A projection is held as its part is on its own side, and always on the other: what is so of both is so of it.
-pub project-held : (s t : Side) (c : ℕ) (P : (Term → Bool) → Type 0) → P (λ p. held p t c) → P (λ p. true) → P (λ p. held (project s p) t c)
-unfolding held
-project-held confidentiality confidentiality c P own off = own
-project-held confidentiality integrity c P own off = off
-project-held integrity confidentiality c P own off = off
-project-held integrity integrity c P own off = own
 
 basis-held : (t : Side) (c : ℕ) (p : Term) → held (conj (project confidentiality p) (project integrity p)) t c ≡ true → held p t c ≡ true
 unfolding held

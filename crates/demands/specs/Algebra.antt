@@ -9,7 +9,8 @@ use Rattle.model.specs.Answers.{Side, confidentiality, integrity, Yes}
 use Rattle.model.specs.Terms.{Term, name, top, bottom, conj, disj, project, NamesBelow, held}
 use Rattle.model.specs.Grants.{Grant, actsStatically, visible, spoken, counting, sound}
 use Rattle.model.specs.Ledgers.{Ledger}
-use Rattle.model.specs.Questions.{actsForUnder, flowsToUnder}
+use Rattle.model.specs.Questions.{actsFor, flowsTo}
+use Rattle.demands.specs.Answers.{Asked}
 use Rattle.model.specs.Meanings.{Holds}
 
 -- a side's other side
@@ -155,16 +156,14 @@ pub record ProjectionLaws (G : List Grant) : Type 0 where
 abbrev pub DefinitionsOneAndTwo : Type 0
 DefinitionsOneAndTwo = (G : List Grant) → ProjectionLaws G
 
--- The acts-for question answers yes exactly if the algebra derives it from the grants that count under the label.
+-- On the bytes of a question none of whose inputs is refused, acts-for answers yes exactly if the algebra derives it from the grants that count.
 abbrev pub YesIsActsFor : Type 0
 YesIsActsFor =
-    (l : Ledger) (L p q : Term)
-    → GrantsBelow (l .names) (l .grants) → NamesBelow (l .names) p → NamesBelow (l .names) q
-    → (actsForUnder l L p q ≡ Yes) ↔ ActsFor (counting (l .names) L (l .grants)) p q
+    (ledger p q label : List ℕ) (l : Ledger) (tp tq L : Term) → Asked ledger p q label l tp tq L
+    → (actsFor ledger p q label ≡ Yes) ↔ ActsFor (counting (l .names) L (l .grants)) tp tq
 
--- So does the flows-to question.
+-- So does flows-to, by Definition 3.
 abbrev pub YesIsFlowsTo : Type 0
 YesIsFlowsTo =
-    (l : Ledger) (L p q : Term)
-    → GrantsBelow (l .names) (l .grants) → NamesBelow (l .names) p → NamesBelow (l .names) q
-    → (flowsToUnder l L p q ≡ Yes) ↔ FlowsTo (counting (l .names) L (l .grants)) p q
+    (ledger p q label : List ℕ) (l : Ledger) (tp tq L : Term) → Asked ledger p q label l tp tq L
+    → (flowsTo ledger p q label ≡ Yes) ↔ FlowsTo (counting (l .names) L (l .grants)) tp tq

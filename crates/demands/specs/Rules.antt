@@ -9,7 +9,8 @@ use Rattle.model.specs.Answers.{Side, Yes}
 use Rattle.model.specs.Terms.{Term, conj, disj, project, NamesBelow}
 use Rattle.model.specs.Grants.{Grant, actsStatically, counting}
 use Rattle.model.specs.Ledgers.{Ledger}
-use Rattle.model.specs.Questions.{actsForUnder}
+use Rattle.model.specs.Questions.{actsFor}
+use Rattle.demands.specs.Answers.{Asked}
 use Rattle.demands.specs.Algebra.{GrantsBelow, Carries}
 
 -- `Derives n G p q`: a tree whose last step has p and q, G being the grants that count.
@@ -39,9 +40,8 @@ RulesAreComplete =
     → GrantsBelow n G → NamesBelow n p → NamesBelow n q
     → ((s : Side) → Carries n G s p q) → Derives n G p q
 
--- So a yes under a label is what the rules derive from the grants that count under it.
+-- So a yes, on the bytes of a question, is what the rules derive from the grants that count under the label.
 abbrev pub YesIsDerived : Type 0
 YesIsDerived =
-    (l : Ledger) (L p q : Term)
-    → GrantsBelow (l .names) (l .grants) → NamesBelow (l .names) p → NamesBelow (l .names) q
-    → (actsForUnder l L p q ≡ Yes) ↔ Derives (l .names) (counting (l .names) L (l .grants)) p q
+    (ledger p q label : List ℕ) (l : Ledger) (tp tq L : Term) → Asked ledger p q label l tp tq L
+    → (actsFor ledger p q label ≡ Yes) ↔ Derives (l .names) (counting (l .names) L (l .grants)) tp tq

@@ -2,13 +2,14 @@
 use Prim.Native.Nat.{ℕ, suc, _+_, _-_, _*_, _/_, _≤_, _<_}
 use native.Mathlib.Omega.{arith}
 use mathlib.Core.Path.{_≡_, refl, sym, ap, _∙_}
+use mathlib.Core.Bool.{true}
 use mathlib.Core.List.{List, [], _∷_}
 use lib.ListN.{length, take, drop, drop-of-length-le}
 use lib.Seq.{drop-cons}
 use Rattle.model.specs.Bytes.{field, Reading, accepted, refused, andThen}
 use Rattle.model.specs.Terms.{Term, readTerm}
 use Rattle.model.specs.Grants.{Grant}
-use Rattle.model.specs.Ledgers.{grantBlocks, pBytes, qBytes, labelBytes, refusedAs, readTerms, readGrant, readGrants}
+use Rattle.model.specs.Ledgers.{grantBlocks, grantForm, pBytes, qBytes, labelBytes, refusedAs, readTerms, readGrant, readGrants}
 use Rattle.model.proofs.Blocks.{length-grantBlocks, getD-grantBlocks}
 use Rattle.model.proofs.Stands.{read-grants}
 use Rattle.terms.specs.Readings.{termReading}
@@ -30,11 +31,12 @@ abbrev pub onTerm : TermReading → GrantReading → GrantReading
 onTerm AcceptedTerm next = next
 onTerm (RefusedTerm r) next = Refused 14
 
-pub terms-answer : (n : ℕ) (block : List ℕ)
-    → grantReading (refusedAs 14 (readTerms n block))
+-- of a block that has its form, the answer goes by the answers for its three terms, in their order
+pub grant-answer : (n : ℕ) (block : List ℕ) → grantForm block ≡ true
+    → grantReading (readGrant n block)
     ≡ onTerm (termReading (readTerm n (pBytes block))) (onTerm (termReading (readTerm n (qBytes block))) (onTerm (termReading (readTerm n (labelBytes block))) Accepted))
-unfolding readTerms
-terms-answer n block = three (readTerm n (pBytes block)) (readTerm n (qBytes block)) (readTerm n (labelBytes block))
+unfolding readGrant readTerms
+grant-answer n block f = rw f (three (readTerm n (pBytes block)) (readTerm n (qBytes block)) (readTerm n (labelBytes block)))
   where
     three : (p q d : Reading Term)
         → grantReading {A = Grant} (refusedAs 14 (andThen p (λ a. andThen q (λ b. andThen d (λ c. accepted (record { p = a; q = b; label = c }))))))

@@ -16,16 +16,11 @@ use Rattle.model.specs.Ledgers.{weighted}
 
 module _ (block : List ℕ) (fits : 510 ≤ length block) where
   -- before byte i: what was summed, and what is to come, is the whole sum
-  pub weight-start : 0 + weighted 0 (drop 0 (take 510 block)) ≡ weighted 0 (take 510 block)
-  weight-start = omega arith
-
   pub weight-more : (i sum whole : ℕ) → i < 510 → sum + weighted i (drop i (take 510 block)) ≡ whole → sum + (i + 1) * getD block i 0 + weighted (i + 1) (drop (i + 1) (take 510 block)) ≡ whole
   unfolding weighted
   weight-more i sum whole h e =
       let long : i < length (take 510 block) = rw (length-take-le 510 block fits) h in
-      let split : weighted i (drop i (take 510 block)) ≡ (i + 1) * getD block i 0 + weighted (i + 1) (drop (i + 1) (take 510 block)) =
-      rw (drop-cons (take 510 block) i 0 long, getD-take 510 block i 0 h, add-one i)
-      in
+      let split : weighted i (drop i (take 510 block)) ≡ (i + 1) * getD block i 0 + weighted (i + 1) (drop (i + 1) (take 510 block)) = rw (drop-cons (take 510 block) i 0 long, getD-take 510 block i 0 h, add-one i) in
       omega arith
 
   pub weight-end : (i sum whole : ℕ) → i ≡ 510 → sum + weighted i (drop i (take 510 block)) ≡ whole → sum ≡ whole

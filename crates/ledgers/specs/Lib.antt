@@ -1,2 +1,3 @@
+-- What the promises cite beside the model's definitions.
 pub mod Forms
 pub mod Readings

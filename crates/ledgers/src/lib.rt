@@ -5,7 +5,7 @@ ghost use mathlib.Core.Bool.{_&&_};
 ghost use Prim.Native.Nat.{_+_, _*_, _≤_, _<_};
 ghost use lib.ListN.{length, take};
 ghost use Rattle.model.specs.Bytes.{byte, field, twoBytes, zeros};
-ghost use Rattle.model.specs.Ledgers.{weighted, checked, header, grantBlocks, allChecked, headerForm, grantForm, pBytes, qBytes, labelBytes, refusedAs, readTerms, readGrant, readGrants, ledgerLength, readLedger};
+ghost use Rattle.model.specs.Ledgers.{weighted, checked, header, grantBlocks, allChecked, headerForm, grantForm, pBytes, qBytes, labelBytes, readGrant, readGrants, ledgerLength, readLedger};
 ghost use Rattle.model.specs.Derivations.{grantBlock};
 ghost use Rattle.ledgers.specs.Forms.{termForm};
 ghost use Rattle.ledgers.specs.Readings.{grantReading, grantRefusal, ledgerReading, ledgerRefusal};
@@ -61,7 +61,7 @@ fn all_checks(ledger: &[u8]) -> bool
 }
 
 // All bytes of the part are 00. No branch for a byte: what is not 0 stays in `any`.
-fn filler(part: &[u8]) -> bool
+pub fn filler(part: &[u8]) -> bool
     ensures { λ r. ⌜ r ≡ zeros (now (part .entry)) ⌝ }
 {
     let mut any: u8 = 0;
@@ -133,7 +133,7 @@ fn grant_form(block: &[u8]) -> bool
 }
 
 // What reading a grant's block gives, or the blocks of all grants.
-pub enum GrantReading {
+enum GrantReading {
     Accepted,
     // The number of the refusal, 13 or 14.
     Refused(u8),
@@ -147,11 +147,15 @@ pub enum LedgerReading {
     Refused(u8),
 }
 
-// The three terms of a grant's block, each read as a part of the block.
-fn read_terms(block: &[u8], n: u64) -> GrantReading
+// The block of a grant in a job of n names: its form, then its three terms, each read as a part of the block.
+fn read_grant(block: &[u8], n: u64) -> GrantReading
     requires { ⌜ 512 ≤ length (now block) ⌝ }
-    ensures { λ r. ⌜ r ≡ grantReading (refusedAs 14 (readTerms n (now (block .entry)))) ⌝ }
+    ensures { λ r. ⌜ r ≡ grantReading (readGrant n (now (block .entry))) ⌝ }
 {
+    let form = grant_form(block);
+    if !form {
+        return GrantReading::Refused(13);
+    }
     let len = block[1] as usize;
     let p = terms::read_term(&block[16..16 + len], n);
     let TermReading::Accepted = p else {
@@ -168,18 +172,6 @@ fn read_terms(block: &[u8], n: u64) -> GrantReading
         return GrantReading::Refused(14);
     };
     GrantReading::Accepted
-}
-
-// The block of a grant in a job of n names.
-fn read_grant(block: &[u8], n: u64) -> GrantReading
-    requires { ⌜ 512 ≤ length (now block) ⌝ }
-    ensures { λ r. ⌜ r ≡ grantReading (readGrant n (now (block .entry))) ⌝ }
-{
-    let form = grant_form(block);
-    if !form {
-        return GrantReading::Refused(13);
-    }
-    read_terms(block, n)
 }
 
 // The blocks of all grants, one after another.
@@ -261,7 +253,7 @@ pub fn ledger_refusal(reading: LedgerReading) -> u8
 }
 
 // The bytes that start at `at`, as many as `len` or as there are.
-fn part(bytes: &[u8], at: usize, len: usize) -> &[u8]
+pub fn part(bytes: &[u8], at: usize, len: usize) -> &[u8]
     ensures { λ r. ⌜ now r ≡ field at len (now (bytes .entry)) ⌝ }
 {
     if bytes.len() <= at {
@@ -284,7 +276,7 @@ pub fn grant_block(ledger: &[u8], k: usize) -> &[u8]
 }
 
 // The part of a grant's block whose length is byte k and that begins at `at`.
-fn term_part(block: &[u8], k: usize, at: usize) -> &[u8]
+pub fn term_part(block: &[u8], k: usize, at: usize) -> &[u8]
     ensures { λ r. ⌜ now r ≡ field at (byte k (now (block .entry))) (now (block .entry)) ⌝ }
 {
     if block.len() <= k {

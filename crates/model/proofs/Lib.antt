@@ -1,5 +1,6 @@
 -- Laws of the definitions, which the theorems and the code's proofs cite.
 pub mod Truth
+pub mod Held
 pub mod Reading
 pub mod Refusals
 pub mod Search
@@ -7,10 +8,14 @@ pub mod Judge
 pub mod Sound
 pub mod Packed
 pub mod Table
+pub mod Extracted
 pub mod Same
 pub mod Accepted
 pub mod Without
 pub mod Blocks
 pub mod Stands
+pub mod Steps
 pub mod Bars
 pub mod Prefixes
+pub mod Monotone
+pub mod Listed

@@ -11,6 +11,7 @@ use borrow.Author.Tests.{ltb-true, eqb-true, leb-true, lt-ltb, le-leb}
 use Rattle.model.specs.Bytes.{Reading, accepted, refused, require}
 use Rattle.model.specs.Answers.{Side, confidentiality, integrity}
 use Rattle.model.specs.Terms.{Term, name, top, bottom, conj, disj, project, projectCode, codes, NamesBelow, Code, whole, one, two, none, codeOf, Front, found, stopped, onward, readParts, readWithin, readFront, allRead, termLength, readTerm}
+use Rattle.model.proofs.Truth.{cond-case}
 
 -- a term has at least one code
 pub codes-some : (t : Term) → 1 ≤ length (codes t)
@@ -21,11 +22,6 @@ codes-some bottom = omega arith
 codes-some (conj p q) = omega arith
 codes-some (disj p q) = omega arith
 codes-some (project s p) = omega arith
-
--- what holds of both branches, each under its test, holds of the choice
-pub cond-case : {A : Type 0} (P : A → Type 0) (b : Bool) (x y : A) → (b ≡ true → P x) → (b ≡ false → P y) → P (cond b x y)
-cond-case P true x y f g = f refl
-cond-case P false x y f g = g refl
 
 -- c is the first code of what `codeOf` says that it is
 abbrev pub Right : ℕ → ℕ → Code → Type 0

@@ -18,6 +18,7 @@ use Rattle.model.specs.Ledgers.{header, grantBlocks, weighted, checkOf, 
 use Rattle.model.specs.Derivations.{ofGrant}
 use Rattle.model.specs.Meanings.{CountingPair, Covers}
 use Rattle.model.proofs.Truth.{clash, and-left, and-right, and-intro, cond-case}
+use Rattle.model.proofs.Blocks.{length-grantBlocks}
 use Rattle.model.proofs.Accepted.{accepted-same, Followed, then-accepted, AcceptedLedger, accepted-ledger, names-range}
 
 -- every block has 512 bytes
@@ -29,11 +30,6 @@ pieces-blocks : (k : ℕ) (l : List ℕ) → 512 * k ≤ length l → Blocks (pi
 unfolding pieces
 pieces-blocks zero l h = none
 pieces-blocks (suc k) l h = some (length-take-le 512 l (omega arith)) (pieces-blocks k (drop 512 l) (omega (arith, length-drop 512 l)))
-
-pieces-length : (k : ℕ) (l : List ℕ) → length (pieces 512 k l) ≡ k
-unfolding pieces
-pieces-length zero l = refl
-pieces-length (suc k) l = ap suc (pieces-length k (drop 512 l))
 
 joined-length : {bs : List (List ℕ)} → Blocks bs → length (joined bs) ≡ 512 * length bs
 unfolding joined
@@ -171,8 +167,7 @@ module _ (n : ℕ) (L : Term) (out : ℕ → Bool) where
 
 -- the blocks of the grants: at most 64, of 512 bytes each
 blocks-few : (bytes : List ℕ) → length bytes ≤ 33280 → length (grantBlocks bytes) ≤ 64
-unfolding grantBlocks
-blocks-few bytes h = omega (arith, pieces-length (length bytes / 512 - 1) (drop 512 bytes))
+blocks-few bytes h = omega (arith, length-grantBlocks bytes)
 
 blocks-whole : (bytes : List ℕ) → 512 ≤ length bytes → Blocks (grantBlocks bytes)
 unfolding grantBlocks

@@ -18,6 +18,11 @@ Inv-loop block sum₀ i₀ sum i =
 abbrev μ-loop : tie.MeasureT-loop
 μ-loop block sum₀ i₀ sum i = 510 - i
 
+-- what byte i adds
+added : (c : tie.After-shared-slice-known Inv-loop μ-loop) → let i = c .before .before .loop .i in (i + 1) * getD (c .before .before .before .args .block .now) i 0 ≤ 130050
+added c = let i = c .before .before .loop .i in
+    product-most i (getD (c .before .before .before .args .block .now) i 0) (omega arith) (omega (arith, c .shared-slice-known .given i))
+
 loop-holds : tie.Need-loop-holds Inv-loop μ-loop
 loop-holds c = (lit≤ tt, lit≤ tt, zero-add (weighted 0 (take 510 (c .args .block .now))))
 
@@ -34,12 +39,10 @@ cast-sum-2 : tie.Need-cast-sum-2 Inv-loop μ-loop
 cast-sum-2 c = omega (arith, c .shared-slice-known .given (c .before .before .loop .i))
 
 mul-sum : tie.Need-mul-sum Inv-loop μ-loop
-mul-sum c = let i = c .before .before .loop .i in
-    omega (arith, product-most i (getD (c .before .before .before .args .block .now) i 0) (omega arith) (omega (arith, c .shared-slice-known .given i)))
+mul-sum c = omega (arith, added c)
 
 add-sum-2 : tie.Need-add-sum-2 Inv-loop μ-loop
-add-sum-2 c = let i = c .before .before .loop .i in
-    omega (arith, product-most i (getD (c .before .before .before .args .block .now) i 0) (omega arith) (omega (arith, c .shared-slice-known .given i)))
+add-sum-2 c = omega (arith, added c)
 
 add-i : tie.Need-add-i Inv-loop μ-loop
 add-i c = omega arith
@@ -52,8 +55,7 @@ loop-again c =
     let block = c .before .before .before .args .block .now in
     let i = c .before .before .loop .i in
     let inv = c .before .before .loop .inv in
-    let most = product-most i (getD block i 0) (omega arith) (omega (arith, c .shared-slice-known .given i)) in
-    (omega arith, omega arith, weight-more block (c .before .before .before .pre) i (c .before .before .loop .sum) (weighted 0 (take 510 block)) (omega arith) (inv .2))
+    (omega arith, omega (arith, added c), weight-more block (c .before .before .before .pre) i (c .before .before .loop .sum) (weighted 0 (take 510 block)) (omega arith) (inv .2))
 
 returns : tie.Need-returns Inv-loop μ-loop
 returns c =

@@ -1,0 +1,114 @@
+# make               build/librights.a, with rights.h and rights.pc beside it
+# make demo          the example program
+# make test          every test and every proof
+# make check-c       the tests in C alone
+# make bench         how fast the library is beside the reference
+# make fuzz          a fuzzer for a while: make fuzz SECONDS=60
+# make stack-use     how much stack a call takes
+# make cases-data    the data file of the test program `cases`, made again
+
+CC = gcc
+CXX = g++
+CLANG = clang-14
+WARNINGS = -Wall -Wextra -pedantic -Werror
+CFLAGS = -std=c11 $(WARNINGS) -O2 -Iinclude -Ireference -Itests
+SANITIZE = -g -fsanitize=address,undefined -fno-sanitize-recover=undefined
+SECONDS = 60
+CALLS = 250000
+
+# another archive to test: make check-c LIB=other/librights.a
+LIB = build/librights.a
+CASES_DATA = crates/cases/data/calls
+
+BOTH = tests/calls.c tests/build.c reference/reference.c
+BOTH_AND_LIB = $(BOTH) tests/library.c $(LIB)
+RANDOM = tests/random_calls.c tests/coverage.c
+HEADERS = $(wildcard include/*.h reference/*.h tests/*.h)
+
+library: build/librights.a build/rights.h build/rights.pc
+
+build/librights.a: crates.txt $(shell find crates -name '*.rt' -o -name '*.antt') | build
+	rt staticlib rights
+	cp target/staticlib/librights.a $@
+
+build/rights.h build/rights.pc: build/%: include/% | build
+	cp $< $@
+
+build:
+	mkdir -p $@
+
+# Debian's packages, where they are missing
+c-tools:
+	@scripts/need $(CC) $(CXX) libc6-dev pkg-config
+
+fuzz-tools:
+	@scripts/need $(CLANG) lib$(CLANG:clang-%=clang-rt-%)-dev
+
+# ---- Programs ----
+
+PROGRAMS = build/workflow build/worked_cases build/compare build/stack_use build/make_cases build/bench
+
+build/workflow: examples/workflow.c $(LIB)
+build/worked_cases: tests/worked_cases.c $(BOTH_AND_LIB)
+build/compare: tests/compare.c $(RANDOM) $(BOTH_AND_LIB)
+build/stack_use: tests/stack_use.c $(RANDOM) $(BOTH_AND_LIB)
+build/make_cases: tests/make_cases.c $(RANDOM) $(BOTH)
+build/bench: bench/bench.c $(RANDOM) $(BOTH_AND_LIB)
+
+build/worked_cases build/compare: CFLAGS += $(SANITIZE)
+build/stack_use: CFLAGS += -pthread
+build/bench: CFLAGS += -O3
+
+$(PROGRAMS): $(HEADERS) | build c-tools
+	$(CC) $(CFLAGS) $(filter %.c %.a,$^) -o $@
+
+build/from_cpp: tests/from_cpp.cpp include/rights.h $(LIB) | build c-tools
+	$(CXX) -std=c++11 $(WARNINGS) -Iinclude $(filter %.cpp %.a,$^) -o $@
+
+build/workflow_by_pkg_config: examples/workflow.c build/librights.a build/rights.h build/rights.pc | c-tools
+	$(CC) $< $$(PKG_CONFIG_PATH=build pkg-config --cflags --libs rights) -o $@
+
+build/fuzz: fuzz/fuzz.c tests/coverage.c $(BOTH_AND_LIB) $(HEADERS) | build fuzz-tools
+	$(CLANG) $(CFLAGS) $(SANITIZE) -fsanitize=fuzzer $(filter %.c %.a,$^) -o $@
+
+# ---- What to run ----
+
+demo: build/workflow
+	build/workflow
+
+test:
+	.ci/run
+
+check-c: $(PROGRAMS) build/from_cpp check-cases-data
+	build/worked_cases
+	build/from_cpp
+	build/workflow | diff examples/workflow.stdout -
+	build/stack_use
+	build/compare $(CALLS)
+
+check-pkg-config: build/workflow_by_pkg_config
+	build/workflow_by_pkg_config | diff examples/workflow.stdout -
+
+stack-use: build/stack_use
+	build/stack_use
+
+bench: build/bench
+	build/bench
+
+fuzz: build/fuzz
+	mkdir -p build/corpus
+	build/fuzz -max_total_time=$(SECONDS) -max_len=1024 -use_value_profile=1 -artifact_prefix=build/ build/corpus
+
+cases-data: build/make_cases
+	mkdir -p $(dir $(CASES_DATA))
+	build/make_cases $(CASES_DATA)
+
+check-cases-data: build/make_cases
+	build/make_cases build/cases-data >build/cases-data.txt
+	cmp build/cases-data $(CASES_DATA)
+
+clean:
+	rm -rf build
+
+.PHONY: library c-tools fuzz-tools demo test check-c check-pkg-config stack-use bench fuzz cases-data \
+	check-cases-data clean

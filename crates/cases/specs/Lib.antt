@@ -1,0 +1,2 @@
+-- Definitions of the test program.
+pub mod Records

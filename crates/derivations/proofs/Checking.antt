@@ -1,0 +1,192 @@
+-- A step's check, one test after another. Assumes nothing.
+use Prim.Native.Nat.{ℕ, suc, _+_, _-_, _%_, _^_, _≤_, _<_}
+use native.Mathlib.Nat.{div-eq-of-lt, lt-of-lt-of-le, zero-add, sub-zero}
+use native.Mathlib.Decide.{decLt}
+use native.Mathlib.Numerals.{add-one}
+use native.Mathlib.Omega.{arith}
+use lib.Pow.{pow-mono}
+use mathlib.Core.Path.{_≡_, refl, sym, ap, subst, _∙_}
+use mathlib.Core.Bool.{Bool, true, false, cond, not, _&&_, _||_}
+use mathlib.Core.List.{List, []}
+use lib.Dec.{eqb, ltb, leb}
+use lib.ListN.{length}
+use borrow.Author.Tests.{leb-true}
+use Rattle.model.specs.Bytes.{byte, Reading, accepted, refused, require}
+use Rattle.model.specs.Answers.{Answer, Yes, RefusedAt, Refused as RefusedAnswer}
+use Rattle.model.specs.Terms.{Term, readTerm, member}
+use Rattle.model.specs.Grants.{Grant, counts}
+use Rattle.model.specs.Ledgers.{Ledger, readLedger}
+use Rattle.model.specs.Extracts.{packed}
+use Rattle.model.specs.Derivations.{stepAt, ruleOf, usesOf, stepForm, readLeft, readRight, isAccepted, ofGrant, checkStep, onStep, checkSteps, derivationLength, stepCount, checkDerivation, ifAccepted, grantBlock, quote}
+use Rattle.model.proofs.Truth.{and-right}
+use Rattle.model.proofs.Packed.{member-packed, packed-lt}
+use Rattle.model.proofs.Prefixes.{ofGrant-past}
+use Rattle.model.proofs.Stands.{ledger-stands}
+use Rattle.terms.specs.Readings.{termReading}
+use Rattle.terms.proofs.Accepted.{AcceptedTerm}
+use Rattle.ledgers.proofs.Accepted.{AcceptedLedger}
+use Rattle.terms.specs.declared.TermReading.{TermReading}
+use Rattle.terms.specs.declared.TermReading.the-variants.{Accepted as TermAccepted, Refused as TermRefused}
+use Rattle.decisions.specs.Promises.{LedgerOf, countingMarks}
+use Rattle.derivations.specs.Steps.{readField, readStep, premisesBefore, Ready, meetsAt, checkAt, stepCheck}
+use Rattle.derivations.specs.declared.StepCheck.{StepCheck}
+use Rattle.derivations.specs.declared.StepCheck.the-variants.{Accepted, Refused}
+
+-- the marks of a word end at 64
+pub member-past : (k x : ℕ) → x < 2 ^ 64 → 64 ≤ k → member k x ≡ false
+unfolding member
+member-past k x h l = rw (div-eq-of-lt {n = x} {m = 2 ^ k} (lt-of-lt-of-le h (pow-mono l)))
+
+-- the term was accepted
+abbrev pub told : TermReading → Bool
+told TermAccepted = true
+told (TermRefused r) = false
+
+term-told : (a : Reading Term) → isAccepted a ≡ told (termReading a)
+term-told (accepted t) = refl
+term-told (refused r) = refl
+
+pub left-told : (n : ℕ) (step : List ℕ) (s : TermReading) → termReading (readField 4 8 n step) ≡ s → isAccepted (readLeft n step) ≡ told s
+unfolding readLeft readField
+left-told n step s e = term-told (readLeft n step) ∙ ap told e
+
+pub right-told : (n : ℕ) (step : List ℕ) (s : TermReading) → termReading (readField 5 72 n step) ≡ s → isAccepted (readRight n step) ≡ told s
+unfolding readRight readField
+right-told n step s e = term-told (readRight n step) ∙ ap told e
+
+-- ---- a step
+
+-- the marks of grants that count say so of each grant
+pub marks-say : (f : Grant → Bool) (gs : List Grant) (k : ℕ) → length gs ≤ 64 → member k (packed (ofGrant f gs) 0 64) ≡ ofGrant f gs k
+marks-say f gs k h = elim (decLt k 64) [ yes b ↦ member-packed (ofGrant f gs) 0 64 k b ∙ ap (ofGrant f gs) (zero-add k) | no b ↦ member-past k (packed (ofGrant f gs) 0 64) (packed-lt (ofGrant f gs) 0 64) (omega arith) ∙ sym (ofGrant-past f gs k (omega arith)) ]
+
+-- what follows the reading of a step; a refusal stays the answer
+abbrev pub onRead : StepCheck → StepCheck → StepCheck
+onRead Accepted next = next
+onRead (Refused r) next = Refused r
+
+-- the four tests after it: the premises are earlier steps, there is such a grant, it counts, the rule is met
+abbrev pub tests : Bool → Bool → Bool → Bool → StepCheck
+tests earlier exists counted met = stepCheck (require earlier 64 (require exists 65 (require counted 66 (require met 67 (accepted tt)))))
+
+read-then : (form p q : Bool) (rest : Reading (Unit {0})) → stepCheck (require form 61 (require p 62 (require q 63 rest))) ≡ onRead (stepCheck (require form 61 (require p 62 (require q 63 (accepted tt))))) (stepCheck rest)
+read-then false p q rest = refl
+read-then true false q rest = refl
+read-then true true false rest = refl
+read-then true true true rest = refl
+
+read-passed : (form p q : Bool) → stepCheck (require form 61 (require p 62 (require q 63 (accepted tt)))) ≡ Accepted → (p ≡ true) × (q ≡ true)
+read-passed false p q e = absurd (let z : _≡_ {A = ℕ} 0 1 = cc in omega arith)
+read-passed true false q e = absurd (let z : _≡_ {A = ℕ} 0 1 = cc in omega arith)
+read-passed true true false e = absurd (let z : _≡_ {A = ℕ} 0 1 = cc in omega arith)
+read-passed true true true e = (refl, refl)
+
+module _ (ledger : List ℕ) (n grants : ℕ) (l : Ledger) (of : LedgerOf ledger n grants l) (step : List ℕ) where
+  -- the rule can be judged once the step is read and its grant is there
+  pub ready-for : stepCheck (readStep n (ruleOf (byte 0 step)) step) ≡ Accepted → (not (usesOf (ruleOf (byte 0 step)) .grant) || ltb (byte 3 step) grants) ≡ true → Ready ledger n step l
+  unfolding readStep
+  ready-for e g =
+      let form = stepForm (ruleOf (byte 0 step)) step in
+      let p = isAccepted (readLeft n step) in
+      let q = isAccepted (readRight n step) in
+      let passed = read-passed form p q e in
+      record { is = of .is; names = of .names; left-read = passed .0; right-read = passed .1; grant-there = rw (← of .count) g }
+
+  -- the answer for step k, from what each test said
+  pub check-told : (d : List ℕ) (k : ℕ) → step ≡ stepAt d k → (L : Term) (marks : ℕ) → marks ≡ countingMarks n L l → (read : StepCheck) (earlier exists counted met : Bool)
+      → stepCheck (readStep n (ruleOf (byte 0 step)) step) ≡ read
+      → premisesBefore (ruleOf (byte 0 step)) step k ≡ earlier
+      → (not (usesOf (ruleOf (byte 0 step)) .grant) || ltb (byte 3 step) grants) ≡ exists
+      → (not (usesOf (ruleOf (byte 0 step)) .grant) || member (byte 3 step) marks) ≡ counted
+      → meetsAt l d step ≡ met
+      → stepCheck (checkAt l L d k) ≡ onRead read (tests earlier exists counted met)
+  unfolding checkStep readStep
+  check-told d k at L marks are read earlier exists counted met e f g h m =
+      let r = ruleOf (byte 0 step) in
+      let here : stepCheck (readStep (l .names) r step) ≡ read = rw (← of .names) e in
+      let there : (not (usesOf r .grant) || ltb (byte 3 step) (length (l .grants))) ≡ exists = rw (← of .count) g in
+      let many : length (l .grants) ≤ 64 = ledger-stands ledger l (of .is) .count-most in
+      let each : member (byte 3 step) marks ≡ ofGrant (counts n L) (l .grants) (byte 3 step) = rw are (marks-say (counts n L) (l .grants) (byte 3 step) many) in
+      let one : (not (usesOf r .grant) || ofGrant (counts (l .names) L) (l .grants) (byte 3 step)) ≡ counted = rw (← of .names, ← each) h in
+      subst (λ (s : List ℕ). stepCheck (checkStep l L d k s (ruleOf (byte 0 s))) ≡ onRead read (tests earlier exists counted met)) at
+      (read-then (stepForm r step) (isAccepted (readLeft (l .names) step)) (isAccepted (readRight (l .names) step)) _
+      ∙ rw (here, f, there, one, m))
+
+-- ---- the steps, one after another
+
+-- what follows an accepted step; a refused one is the answer, with its number
+abbrev pub onCheck : ℕ → StepCheck → Answer → Answer
+onCheck k Accepted next = next
+onCheck k (Refused r) next = RefusedAt k r
+
+step-then : (k : ℕ) (x : Reading (Unit {0})) (next : Answer) → onStep k x next ≡ onCheck k (stepCheck x) next
+step-then k (accepted u) next = refl
+step-then k (refused r) next = refl
+
+module _ (l : Ledger) (L : Term) (d : List ℕ) where
+  -- the answer for step k and those after it
+  pub stepsFrom : ℕ → Answer
+  stepsFrom k = checkSteps l L d k (stepCount d - k)
+
+  pub steps-start : stepsFrom 0 ≡ checkSteps l L d 0 (stepCount d)
+  unfolding stepsFrom
+  steps-start = rw (sub-zero (stepCount d))
+
+  pub steps-more : (k : ℕ) (here : StepCheck) (whole : Answer) → k < stepCount d → here ≡ stepCheck (checkAt l L d k) → stepsFrom k ≡ whole → onCheck k here (stepsFrom (k + 1)) ≡ whole
+  unfolding stepsFrom checkSteps
+  steps-more k here whole h e w =
+      let left : stepCount d - k ≡ suc (stepCount d - (k + 1)) = omega arith in
+      rw (e, ← step-then, add-one) (rw (left, add-one) at w)
+
+  pub steps-end : (k : ℕ) → stepCount d ≤ k → stepsFrom k ≡ Yes
+  unfolding stepsFrom checkSteps
+  steps-end k h =
+      let none : stepCount d - k ≡ 0 = omega arith in
+      rw none
+
+-- at most 64 steps
+pub length-most : (k : ℕ) → derivationLength k ≡ true → k ≤ 8704
+length-most k e = leb-true k 8704 (and-right (leb 136 k) (leb k 8704) (and-right (eqb (k % 136) 0) (leb 136 k && leb k 8704) e))
+
+-- ---- the whole check: the ledger, the label, the length, the steps
+
+module _ (d ledger label : List ℕ) where
+  pub ledger-refused : (r : ℕ) → readLedger ledger ≡ refused r → checkDerivation d ledger label ≡ RefusedAnswer r
+  unfolding checkDerivation
+  ledger-refused r e = rw e
+
+  module _ (n k : ℕ) (read : AcceptedLedger ledger n k) where
+    pub label-refused : (r : ℕ) → readTerm n label ≡ refused r → checkDerivation d ledger label ≡ RefusedAnswer (40 + r)
+    unfolding checkDerivation
+    label-refused r f = rw (read .is, read .names, f)
+
+    both-accepted : (L : Term) → readTerm n label ≡ accepted L
+        → checkDerivation d ledger label ≡ cond (derivationLength (length d)) (checkSteps (read .ledger) L d 0 (stepCount d)) (RefusedAnswer 60)
+    unfolding checkDerivation
+    both-accepted L f = rw (read .is, read .names, f)
+
+    module _ (term : AcceptedTerm n label) where
+      pub length-refused : derivationLength (length d) ≡ false → checkDerivation d ledger label ≡ RefusedAnswer 60
+      length-refused e = rw (both-accepted (term .term) (term .is), e)
+
+      -- what the steps' check says of the marks, and what the marks are
+      pub steps-checked : (marks : ℕ) (answer : Answer) → derivationLength (length d) ≡ true
+          → ((l : Ledger) (L : Term) → LedgerOf ledger n k l → readTerm n label ≡ accepted L → marks ≡ countingMarks n L l)
+          → ((l : Ledger) (L : Term) → LedgerOf ledger n k l → marks ≡ countingMarks n L l → answer ≡ checkSteps l L d 0 (stepCount d))
+          → answer ≡ checkDerivation d ledger label
+      steps-checked marks answer e counted checked =
+          let of : LedgerOf ledger n k (read .ledger) = record { is = read .is; names = sym (read .names); count = sym (read .count) } in
+          rw (both-accepted (term .term) (term .is), e) (checked (read .ledger) (term .term) of (counted (read .ledger) (term .term) of (term .is)))
+
+-- ---- quoting
+
+module _ (d ledger label : List ℕ) (k : ℕ) where
+  -- the check accepts: the block of the grant that step k names, if there is such a step and it is one of rule 2
+  pub quote-told : (step : List ℕ) (there granted : Bool) → checkDerivation d ledger label ≡ Yes → step ≡ stepAt d k → ltb k (stepCount d) ≡ there → eqb (byte 0 step) 2 ≡ granted
+      → quote d ledger label k ≡ cond (there && granted) (grantBlock ledger (byte 3 step)) []
+  unfolding quote
+  quote-told step there granted e at h r = rw (e, ← at, h, r)
+
+  pub quote-refused : (a : Answer) → checkDerivation d ledger label ≡ a → ((part : List ℕ) → ifAccepted a part ≡ []) → quote d ledger label k ≡ []
+  unfolding quote
+  quote-refused a e none = rw e (none _)

@@ -1,0 +1,16 @@
+-- `derivations::length_fits` meets its contract, by its tests. Assumes nothing.
+use borrow.Author.Tests.{eq-eqb, ne-eqb, le-leb, lt-leb}
+use Rattle.derivations.proofs.length_fits.Statement.{statement}
+use Rattle.derivations.proofs.length_fits.Tie as tie
+
+returns : tie.Need-returns
+returns c = simp (ne-eqb _ _ (c .if1 .taken))
+
+returns-2 : tie.Need-returns-2
+returns-2 c = simp (eq-eqb _ _ (c .before .if1 .left), le-leb _ _ (c .if2 .taken))
+
+returns-3 : tie.Need-returns-3
+returns-3 c = simp (eq-eqb _ _ (c .before .if1 .left), lt-leb _ _ (c .if2 .left))
+
+pub length-fits-spec : {M : Type 1} → statement M
+length-fits-spec = tie.close (tie.spec returns returns-2 returns-3)

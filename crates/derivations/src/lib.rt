@@ -1,0 +1,504 @@
+// The derivation check, step by step, and quoting (document 01, "Derivations").
+use ledgers::LedgerReading;
+use terms::TermReading;
+ghost use mathlib.Core.Path.{_≡_};
+ghost use mathlib.Core.Bool.{not, _&&_, _||_};
+ghost use mathlib.Core.List.{_∷_, _++_};
+ghost use Prim.Native.Nat.{_+_, _*_, _≤_, _<_};
+ghost use lib.Dec.{eqb, ltb};
+ghost use lib.ListN.{length};
+ghost use Rattle.model.specs.Bytes.{byte, same};
+ghost use Rattle.model.specs.Answers.{number};
+ghost use Rattle.model.specs.Terms.{Term, member};
+ghost use Rattle.model.specs.Ledgers.{Ledger};
+ghost use Rattle.model.specs.Derivations.{stepAt, left, right, transitive, conjunction, disjunction, ruleOf, isRule, usesOf, stepForm, before, meets, checkSteps, derivationLength, stepCount, checkDerivation, quote};
+ghost use Rattle.terms.specs.Readings.{termReading};
+ghost use Rattle.decisions.specs.Promises.{LedgerOf, countingMarks};
+ghost use Rattle.derivations.specs.Steps.{fieldsForm, pastTerm, fillerForm, readField, readStep, premisesBefore, joins, Ready, meetsAt, checkAt, stepCheck, stepRefusal};
+ghost use Rattle.derivations.specs.Answers.{answerOf};
+
+// The two are the same, byte for byte.
+fn same(a: &[u8], b: &[u8]) -> bool
+    ensures { λ r. ⌜ r ≡ same (now (a .entry)) (now (b .entry)) ⌝ }
+{
+    if a.len() != b.len() {
+        return false;
+    }
+    let mut i: usize = 0;
+    while i < a.len() {
+        if a[i] != b[i] {
+            return false;
+        }
+        i += 1;
+    }
+    true
+}
+
+// The bytes are a code, then a part.
+fn code_then(s: &[u8], code: u8, a: &[u8]) -> bool
+    ensures { λ r. ⌜ r ≡ same (now (s .entry)) (code ∷ now (a .entry)) ⌝ }
+{
+    if s.len() == 0 {
+        return false;
+    }
+    if s[0] != code {
+        return false;
+    }
+    same(&s[1..], a)
+}
+
+// The bytes are a code, then two parts.
+fn code_then_two(s: &[u8], code: u8, a: &[u8], b: &[u8]) -> bool
+    ensures { λ r. ⌜ r ≡ same (now (s .entry)) (code ∷ now (a .entry) ++ now (b .entry)) ⌝ }
+{
+    if s.len() <= a.len() {
+        return false;
+    }
+    let second = 1 + a.len();
+    let first = code_then(&s[..second], code, a);
+    if !first {
+        return false;
+    }
+    same(&s[second..], b)
+}
+
+// Step k, a part of the derivation; an empty part where there is none.
+fn step_at(derivation: &[u8], k: usize) -> &[u8]
+    ensures { λ r. ⌜ now r ≡ stepAt (now (derivation .entry)) k ⌝ }
+{
+    if derivation.len() / 136 < k {
+        return &derivation[..0];
+    }
+    ledgers::part(derivation, 136 * k, 136)
+}
+
+// A step's p and its q.
+fn left(step: &[u8]) -> &[u8]
+    ensures { λ r. ⌜ now r ≡ left (now (step .entry)) ⌝ }
+{
+    ledgers::term_part(step, 4, 8)
+}
+
+fn right(step: &[u8]) -> &[u8]
+    ensures { λ r. ⌜ now r ≡ right (now (step .entry)) ⌝ }
+{
+    ledgers::term_part(step, 5, 72)
+}
+
+// Which of bytes 1, 2 and 3 a rule uses: the first premise, the second, the grant.
+fn uses_first(rule: u8) -> bool
+    ensures { λ r. ⌜ r ≡ usesOf (ruleOf rule) .first ⌝ }
+{
+    3 <= rule && rule <= 7
+}
+
+fn uses_second(rule: u8) -> bool
+    ensures { λ r. ⌜ r ≡ usesOf (ruleOf rule) .second ⌝ }
+{
+    3 <= rule && rule <= 5
+}
+
+fn uses_grant(rule: u8) -> bool
+    ensures { λ r. ⌜ r ≡ usesOf (ruleOf rule) .grant ⌝ }
+{
+    rule == 2
+}
+
+fn is_rule(rule: u8) -> bool
+    ensures { λ r. ⌜ r ≡ isRule (ruleOf rule) ⌝ }
+{
+    1 <= rule && rule <= 7
+}
+
+// A field that its rule uses, or 00.
+fn used_or_zero(used: bool, field: u8) -> bool
+    ensures { λ r. ⌜ r ≡ (used || eqb field 0) ⌝ }
+{
+    used || field == 0
+}
+
+// A rule, and 00 in the fields that it doesn't use.
+fn fields_form(step: &[u8]) -> bool
+    requires { ⌜ 136 ≤ length (now step) ⌝ }
+    ensures { λ r. ⌜ r ≡ fieldsForm (ruleOf (byte 0 (now (step .entry)))) (now (step .entry)) ⌝ }
+{
+    let rule = step[0];
+    let known = is_rule(rule);
+    if !known {
+        return false;
+    }
+    let first = used_or_zero(uses_first(rule), step[1]);
+    if !first {
+        return false;
+    }
+    let second = used_or_zero(uses_second(rule), step[2]);
+    if !second {
+        return false;
+    }
+    used_or_zero(uses_grant(rule), step[3])
+}
+
+// The filler past a term: byte k is its length, and its field of 64 bytes begins at `at`. A length over 64 has no filler.
+fn past_term(step: &[u8], k: usize, at: usize) -> bool
+    requires { ⌜ (k < length (now step)) × (at + 64 ≤ length (now step)) ⌝ }
+    ensures { λ r. ⌜ r ≡ pastTerm k at (now (step .entry)) ⌝ }
+{
+    let len = step[k] as usize;
+    if 64 < len {
+        return true;
+    }
+    ledgers::filler(&step[at + len..at + 64])
+}
+
+// Bytes 6 and 7, and what is past the terms.
+fn filler_form(step: &[u8]) -> bool
+    requires { ⌜ 136 ≤ length (now step) ⌝ }
+    ensures { λ r. ⌜ r ≡ fillerForm (now (step .entry)) ⌝ }
+{
+    let unused = ledgers::filler(&step[6..8]);
+    if !unused {
+        return false;
+    }
+    let p = past_term(step, 4, 8);
+    if !p {
+        return false;
+    }
+    past_term(step, 5, 72)
+}
+
+// 61 where not.
+fn step_form(step: &[u8]) -> bool
+    requires { ⌜ 136 ≤ length (now step) ⌝ }
+    ensures { λ r. ⌜ r ≡ stepForm (ruleOf (byte 0 (now (step .entry)))) (now (step .entry)) ⌝ }
+{
+    let fields = fields_form(step);
+    if !fields {
+        return false;
+    }
+    filler_form(step)
+}
+
+// A term of a step: byte k is its length, and it begins at `at`.
+fn read_field(step: &[u8], k: usize, at: usize, n: u64) -> TermReading
+    requires { ⌜ k < length (now step) ⌝ }
+    ensures { λ r. ⌜ r ≡ termReading (readField k at n (now (step .entry))) ⌝ }
+{
+    if 64 < step[k] {
+        return TermReading::Refused(1);
+    }
+    terms::read_term(ledgers::term_part(step, k, at), n)
+}
+
+// What checking a step gives.
+enum StepCheck {
+    Accepted,
+    // The number of the refusal, 61 to 67.
+    Refused(u8),
+}
+
+// The step by itself: 61 to 63.
+fn read_step(step: &[u8], n: u64) -> StepCheck
+    requires { ⌜ 136 ≤ length (now step) ⌝ }
+    ensures { λ r. ⌜ r ≡ stepCheck (readStep n (ruleOf (byte 0 (now (step .entry)))) (now (step .entry))) ⌝ }
+{
+    let form = step_form(step);
+    if !form {
+        return StepCheck::Refused(61);
+    }
+    let p = read_field(step, 4, 8, n);
+    let TermReading::Accepted = p else {
+        return StepCheck::Refused(62);
+    };
+    let q = read_field(step, 5, 72, n);
+    let TermReading::Accepted = q else {
+        return StepCheck::Refused(63);
+    };
+    StepCheck::Accepted
+}
+
+// A premise that the rule uses is a step before step k.
+fn earlier(used: bool, premise: u8, k: usize) -> bool
+    ensures { λ r. ⌜ r ≡ before used premise k ⌝ }
+{
+    !used || (premise as usize) < k
+}
+
+// Both premises are: 64 where not.
+fn premises_before(step: &[u8], k: usize) -> bool
+    requires { ⌜ 136 ≤ length (now step) ⌝ }
+    ensures { λ r. ⌜ r ≡ premisesBefore (ruleOf (byte 0 (now (step .entry)))) (now (step .entry)) k ⌝ }
+{
+    let rule = step[0];
+    let first = earlier(uses_first(rule), step[1], k);
+    if !first {
+        return false;
+    }
+    earlier(uses_second(rule), step[2], k)
+}
+
+// Of `grants` grants there is one of the number in byte 3, where the rule uses it: 65 where not.
+fn grant_exists(step: &[u8], grants: usize) -> bool
+    requires { ⌜ 136 ≤ length (now step) ⌝ }
+    ensures { λ r. ⌜ r ≡ (not (usesOf (ruleOf (byte 0 (now (step .entry)))) .grant) || ltb (byte 3 (now (step .entry))) grants) ⌝ }
+{
+    let used = uses_grant(step[0]);
+    !used || (step[3] as usize) < grants
+}
+
+// Bit k of the marks.
+fn marked(marks: u64, k: usize) -> bool
+    ensures { λ r. ⌜ r ≡ member k marks ⌝ }
+{
+    if 64 <= k {
+        return false;
+    }
+    (marks >> k) % 2 == 1
+}
+
+// The grant is marked as one that counts, where the rule uses it: 66 where not.
+fn grant_marked(step: &[u8], marks: u64) -> bool
+    requires { ⌜ 136 ≤ length (now step) ⌝ }
+    ensures { λ r. ⌜ r ≡ (not (usesOf (ruleOf (byte 0 (now (step .entry)))) .grant) || member (byte 3 (now (step .entry))) marks) ⌝ }
+{
+    let used = uses_grant(step[0]);
+    if !used {
+        return true;
+    }
+    marked(marks, step[3] as usize)
+}
+
+// The step's terms are p and q: rule 2, of the grant's.
+fn has_terms(step: &[u8], p: &[u8], q: &[u8]) -> bool
+    ensures { λ r. ⌜ r ≡ (same (left (now (step .entry))) (now (p .entry)) && same (right (now (step .entry))) (now (q .entry))) ⌝ }
+{
+    let first = same(left(step), p);
+    if !first {
+        return false;
+    }
+    same(right(step), q)
+}
+
+// Rule 3: the first premise is p for m, the second m for q.
+fn transitive(step: &[u8], a: &[u8], b: &[u8]) -> bool
+    ensures { λ r. ⌜ ((l : Ledger) → r ≡ meets l transitive (now (step .entry)) (now (a .entry)) (now (b .entry))) ⌝ }
+{
+    let first = same(left(a), left(step));
+    if !first {
+        return false;
+    }
+    let middle = same(right(a), left(b));
+    if !middle {
+        return false;
+    }
+    same(right(b), right(step))
+}
+
+// Rules 4 and 5: the whole is a code, then the premises' terms on that side in order; on the other side both are the common term.
+fn joins(
+    code: u8,
+    whole: &[u8],
+    first: &[u8],
+    second: &[u8],
+    common: &[u8],
+    one: &[u8],
+    other: &[u8],
+) -> bool
+    ensures { λ r. ⌜ r ≡ joins code (now (whole .entry)) (now (first .entry)) (now (second .entry)) (now (common .entry)) (now (one .entry)) (now (other .entry)) ⌝ }
+{
+    let parts = code_then_two(whole, code, first, second);
+    if !parts {
+        return false;
+    }
+    let first = same(one, common);
+    if !first {
+        return false;
+    }
+    same(other, common)
+}
+
+// Rules 6 and 7: p and q are the code before the terms of the premise.
+fn projects(code: u8, step: &[u8], a: &[u8]) -> bool
+    ensures { λ r. ⌜ r ≡ (same (left (now (step .entry))) (code ∷ left (now (a .entry))) && same (right (now (step .entry))) (code ∷ right (now (a .entry)))) ⌝ }
+{
+    let p = code_then(left(step), code, left(a));
+    if !p {
+        return false;
+    }
+    code_then(right(step), code, right(a))
+}
+
+// Rule 4: q is 30, then the premises' right terms in order; both left terms are p.
+fn conjunction(step: &[u8], a: &[u8], b: &[u8]) -> bool
+    ensures { λ r. ⌜ ((l : Ledger) → r ≡ meets l conjunction (now (step .entry)) (now (a .entry)) (now (b .entry))) ⌝ }
+{
+    let p = left(step);
+    let q = right(step);
+    joins(0x30, q, right(a), right(b), p, left(a), left(b))
+}
+
+// Rule 5: p is 31, then their left terms in order; both right terms are q.
+fn disjunction(step: &[u8], a: &[u8], b: &[u8]) -> bool
+    ensures { λ r. ⌜ ((l : Ledger) → r ≡ meets l disjunction (now (step .entry)) (now (a .entry)) (now (b .entry))) ⌝ }
+{
+    let p = left(step);
+    let q = right(step);
+    joins(0x31, p, left(a), left(b), q, right(a), right(b))
+}
+
+// The step meets its rule, its terms being read and its grant being there: 67 where not.
+fn meets(derivation: &[u8], step: &[u8], ledger: &[u8], n: u64) -> bool
+    requires { ⌜ 136 ≤ length (now step) ⌝ }
+    ensures { λ r. ⌜ ((l : Ledger) → Ready (now (ledger .entry)) n (now (step .entry)) l → r ≡ meetsAt l (now (derivation .entry)) (now (step .entry))) ⌝ }
+{
+    let a = step_at(derivation, step[1] as usize);
+    let b = step_at(derivation, step[2] as usize);
+    let grant = step[3] as usize;
+    let rule = step[0];
+    match rule {
+        1 => decisions::acts_statically(n, left(step), right(step)),
+        2 => has_terms(
+            step,
+            ledgers::grant_p(ledger, grant),
+            ledgers::grant_q(ledger, grant),
+        ),
+        3 => transitive(step, a, b),
+        4 => conjunction(step, a, b),
+        5 => disjunction(step, a, b),
+        6 => projects(0x40, step, a),
+        7 => projects(0x41, step, a),
+        _ => false,
+    }
+}
+
+// Step k of the derivation: the first refusal of 61 to 67. Bit g of the marks says whether grant g counts.
+fn check_step(
+    derivation: &[u8],
+    k: usize,
+    ledger: &[u8],
+    n: u64,
+    grants: usize,
+    marks: u64,
+) -> StepCheck
+    requires { ⌜ 136 * (k + 1) ≤ length (now derivation) ⌝ }
+    ensures { λ r. ⌜ ((l : Ledger) (L : Term) → LedgerOf (now (ledger .entry)) n grants l → marks ≡ countingMarks n L l → r ≡ stepCheck (checkAt l L (now (derivation .entry)) k)) ⌝ }
+{
+    let step = step_at(derivation, k);
+    let read = read_step(step, n);
+    let StepCheck::Accepted = read else {
+        return read;
+    };
+    let earlier = premises_before(step, k);
+    if !earlier {
+        return StepCheck::Refused(64);
+    }
+    let exists = grant_exists(step, grants);
+    if !exists {
+        return StepCheck::Refused(65);
+    }
+    let counts = grant_marked(step, marks);
+    if !counts {
+        return StepCheck::Refused(66);
+    }
+    let met = meets(derivation, step, ledger, n);
+    if !met {
+        return StepCheck::Refused(67);
+    }
+    StepCheck::Accepted
+}
+
+// The number of the refusal of a step, 0 where there is none.
+fn step_refusal(check: StepCheck) -> u8
+    ensures { λ k. ⌜ k ≡ stepRefusal check ⌝ }
+{
+    match check {
+        StepCheck::Accepted => 0,
+        StepCheck::Refused(k) => k,
+    }
+}
+
+// What checking a derivation gives.
+pub enum Checked {
+    Accepted,
+    // The number of the refusal, of the ledger, the label or the derivation's length.
+    Refused(u8),
+    // The step, and the number of its refusal.
+    RefusedAt(u8, u8),
+}
+
+// Step by step.
+fn check_steps(derivation: &[u8], ledger: &[u8], n: u64, grants: usize, marks: u64) -> Checked
+    requires { ⌜ length (now derivation) ≤ 8704 ⌝ }
+    ensures { λ r. ⌜ ((l : Ledger) (L : Term) → LedgerOf (now (ledger .entry)) n grants l → marks ≡ countingMarks n L l → answerOf r ≡ checkSteps l L (now (derivation .entry)) 0 (stepCount (now (derivation .entry)))) ⌝ }
+{
+    let steps = derivation.len() / 136;
+    let mut k: usize = 0;
+    while k < steps {
+        let check = check_step(derivation, k, ledger, n, grants, marks);
+        let StepCheck::Accepted = check else {
+            return Checked::RefusedAt(k as u8, step_refusal(check));
+        };
+        k += 1;
+    }
+    Checked::Accepted
+}
+
+// A multiple of 136 from 136 to 8,704: 1 to 64 steps.
+fn length_fits(len: usize) -> bool
+    ensures { λ r. ⌜ r ≡ derivationLength len ⌝ }
+{
+    if len % 136 != 0 {
+        return false;
+    }
+    136 <= len && len <= 8704
+}
+
+// Checks a derivation. The grants that count are judged once.
+pub fn check_derivation(derivation: &[u8], ledger: &[u8], label: &[u8]) -> Checked
+    ensures { λ r. ⌜ answerOf r ≡ checkDerivation (now (derivation .entry)) (now (ledger .entry)) (now (label .entry)) ⌝ }
+{
+    let reading = ledgers::read_ledger(ledger);
+    let LedgerReading::Accepted { names: n, grants } = reading else {
+        return Checked::Refused(ledgers::ledger_refusal(reading));
+    };
+    let term = terms::read_term(label, n);
+    let TermReading::Accepted = term else {
+        return Checked::Refused(40 + terms::term_refusal(term));
+    };
+    let fits = length_fits(derivation.len());
+    if !fits {
+        return Checked::Refused(60);
+    }
+    let marks = decisions::counting(ledger, n, grants, label);
+    check_steps(derivation, ledger, n, grants, marks)
+}
+
+// The block of the grant that a step of an accepted derivation names, a part of the ledger; an empty part for any refusal, a step past
+// the end, or a rule other than 2.
+pub fn quote<'a, 'b>(derivation: &'b [u8], ledger: &'a [u8], label: &'b [u8], step: u64) -> &'a [u8]
+    ensures { λ r. ⌜ now r ≡ quote (now (derivation .entry)) (now (ledger .entry)) (now (label .entry)) step ⌝ }
+{
+    let checked = check_derivation(derivation, ledger, label);
+    let Checked::Accepted = checked else {
+        return &ledger[..0];
+    };
+    let steps = derivation.len() / 136;
+    if steps as u64 <= step {
+        return &ledger[..0];
+    }
+    let quoted = step_at(derivation, step as usize);
+    if quoted[0] != 2 {
+        return &ledger[..0];
+    }
+    ledgers::grant_block(ledger, quoted[3] as usize)
+}
+
+// The one number that the answer is to C.
+pub fn checked_number(checked: Checked) -> u32
+    ensures { λ r. ⌜ r ≡ number (answerOf checked) ⌝ }
+{
+    match checked {
+        Checked::Accepted => 0,
+        Checked::Refused(r) => 2 * 65536 + r as u32,
+        Checked::RefusedAt(step, r) => 2 * 65536 + (step as u32 * 256 + r as u32),
+    }
+}

@@ -1,0 +1,95 @@
+-- A half of an extract, filled word by word: the marks of n names from the front, the rest 00 as from 2^n up. Assumes nothing.
+use mathlib.Core.Path.{_≡_, refl, sym, ap, ap₂, _∙_}
+use mathlib.Core.Bool.{Bool, false, _&&_}
+use mathlib.Core.List.{List, _∷_, _++_}
+use Prim.Native.Nat.{ℕ, zero, suc, _+_, _*_, _-_, _^_, _≤_, _<_}
+use native.Mathlib.Nat.{le-of-eq, zero-add, add-zero, add-suc, suc-add}
+use native.Mathlib.Omega.{arith}
+use lib.ListN.{length, drop, length-replicate, replicate-append-replicate}
+use lib.Seq.{paste, drop-at}
+use borrow.Author.Tests.{le-ltb}
+use Rattle.model.specs.Answers.{confidentiality, integrity}
+use Rattle.model.specs.Grants.{Marks}
+use Rattle.model.specs.Extracts.{mark, packed, packedBytes}
+use Rattle.model.proofs.Table.{length-packed}
+use Rattle.words.specs.Evaluation.{wordsOf}
+use Rattle.words.proofs.Packing.{packed-zero}
+use Rattle.words.proofs.Names.{words-enough, words-few}
+use Rattle.extracts.specs.Halves.{littleEndian, blank, Halves}
+use Rattle.extracts.proofs.Pasting.{paste-long, paste-after}
+use Rattle.extracts.proofs.WordBytes.{length-bytes, marks-bytes}
+
+-- the bytes of the first w words of marks, then 00
+unfoldable pub halfTo : (ℕ → Bool) → ℕ → List ℕ
+halfTo f w = packedBytes f 0 (8 * w) ++ blank (512 - 8 * w)
+
+bytes-append : (f : ℕ → Bool) (j a b : ℕ) → packedBytes f j (a + b) ≡ packedBytes f j a ++ packedBytes f (j + a) b
+unfolding packedBytes
+bytes-append f j zero b = rw (zero-add b, add-zero)
+bytes-append f j (suc a) b = rw (suc-add, add-suc, ← suc-add) (ap (λ (l : List ℕ). packed f (8 * j) 8 ∷ l) (bytes-append f (suc j) a b))
+
+drop-blank : (a b : ℕ) → drop a (blank (a + b)) ≡ blank b
+drop-blank a b = ap (drop a) (sym (replicate-append-replicate a b 0)) ∙ drop-at (blank a) (blank b) a (length-replicate a 0)
+
+-- no mark, no bit
+clear : (f : ℕ → Bool) (j k : ℕ) → ((c : ℕ) → 8 * j ≤ c → f c ≡ false) → packedBytes f j k ≡ blank k
+unfolding packedBytes
+clear f j zero h = refl
+clear f j (suc k) h = ap₂ (λ (x : ℕ) (l : List ℕ). x ∷ l) (packed-zero f (8 * j) 8 .1 (λ c a b. h c a)) (clear f (suc j) k (λ c a. h c (omega arith)))
+
+module _ (f : ℕ → Bool) where
+  pub half-start : blank 512 ≡ halfTo f 0
+  unfolding halfTo packedBytes
+  half-start = refl
+
+  word-bytes : (w : ℕ) → littleEndian 8 (packed f (64 * w) 64) ≡ packedBytes f (0 + 8 * w) 8
+  word-bytes w =
+      let e : 64 * w ≡ 8 * (0 + 8 * w) = omega arith in
+      ap (λ (i : ℕ). littleEndian 8 (packed f i 64)) e ∙ marks-bytes f (0 + 8 * w) 8
+
+  -- one word more
+  pub half-more : (w : ℕ) → w < 64 → paste (halfTo f w) (8 * w) (littleEndian 8 (packed f (64 * w) 64)) 8 ≡ halfTo f (w + 1)
+  unfolding halfTo
+  half-more w h =
+      let k : 8 * w + 8 ≡ 8 * (w + 1) = omega arith in
+      let z : 512 - 8 * w ≡ 8 + (512 - 8 * (w + 1)) = omega arith in
+      paste-after (packedBytes f 0 (8 * w)) (blank (512 - 8 * w)) (littleEndian 8 (packed f (64 * w) 64)) (8 * w) 8 (length-packed f 0 (8 * w)) (length-bytes 8 (packed f (64 * w) 64))
+      ∙ ap₂ (λ (l m : List ℕ). l ++ m)
+      (ap (λ (l : List ℕ). packedBytes f 0 (8 * w) ++ l) (word-bytes w) ∙ sym (bytes-append f 0 (8 * w) 8) ∙ ap (packedBytes f 0) k)
+      (ap (λ (i : ℕ). drop 8 (blank i)) z ∙ drop-blank 8 (512 - 8 * (w + 1)))
+
+-- a turn of the loop: word w is put into a half
+module _ (half next : List ℕ) (w word : ℕ) (h : w < 64) (put : next ≡ paste half (8 * w) (littleEndian 8 word) 8) where
+  pub turn-length : length half ≡ 512 → length next ≡ 512
+  turn-length e = paste-long half next (8 * w) 8 (littleEndian 8 word) (omega arith) (le-of-eq (sym (length-bytes 8 word))) put ∙ e
+
+  pub turn-half : (f : ℕ → Bool) → word ≡ packed f (64 * w) 64 → half ≡ halfTo f w → next ≡ halfTo f (w + 1)
+  turn-half f e i = put ∙ ap₂ (λ (l : List ℕ) (x : ℕ). paste l (8 * w) (littleEndian 8 x) 8) i e ∙ half-more f w h
+
+-- all words of n names: from 2^n up all bits are clear
+pub half-end : (n : ℕ) (f : ℕ → Bool) → n ≤ 12 → halfTo (mark n f) (wordsOf n) ≡ packedBytes (mark n f) 0 512
+unfolding halfTo mark
+half-end n f h =
+    let w = wordsOf n in
+    let few = words-few n in
+    let k : 8 * w + (512 - 8 * w) ≡ 512 = omega arith in
+    ap (λ (l : List ℕ). packedBytes (mark n f) 0 (8 * w) ++ l)
+    (sym (clear (mark n f) (0 + 8 * w) (512 - 8 * w) (λ c a. ap (λ (b : Bool). b && f c) (le-ltb c (2 ^ n) (omega (arith, words-enough n h))))))
+    ∙ sym (bytes-append (mark n f) 0 (8 * w) (512 - 8 * w)) ∙ ap (packedBytes (mark n f) 0) k
+
+-- both halves with the marks of the first w words
+pub record Filled (n : ℕ) (S : Marks) (w : ℕ) (see change : List ℕ) : Type 0 where
+  pub see-half : see ≡ halfTo (mark n (S confidentiality)) w
+  pub change-half : change ≡ halfTo (mark n (S integrity)) w
+
+pub filled-start : (n : ℕ) (S : Marks) (see change : List ℕ) → see ≡ blank 512 → change ≡ blank 512 → Filled n S 0 see change
+filled-start n S see change a b = record {
+  see-half = a ∙ half-start (mark n (S confidentiality));
+  change-half = b ∙ half-start (mark n (S integrity));
+}
+
+pub filled-end : (n : ℕ) (S : Marks) (w : ℕ) (see change : List ℕ) → n ≤ 12 → w ≡ wordsOf n → Filled n S w see change → Halves n S see change
+filled-end n S w see change h e f = record {
+  see-half = f .see-half ∙ ap (halfTo (mark n (S confidentiality))) e ∙ half-end n (S confidentiality) h;
+  change-half = f .change-half ∙ ap (halfTo (mark n (S integrity))) e ∙ half-end n (S integrity) h;
+}

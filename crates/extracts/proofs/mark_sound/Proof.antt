@@ -1,0 +1,101 @@
+-- `extracts::mark_sound` meets its contract. The loop's invariant: both halves have the marks of the first w words. Assumes nothing.
+use Prim.Native.Nat.{ℕ, _-_, _≤_, _<_}
+use native.Mathlib.Omega.{arith}
+use mathlib.Core.Path.{_≡_, ap}
+use lib.ListN.{length}
+use borrow.Author.Needs.{needs}
+use mathlib.Core.List.{List}
+use Rattle.model.specs.Answers.{confidentiality, integrity}
+use Rattle.model.specs.Extracts.{mark}
+use Rattle.model.proofs.Accepted.{names-range}
+use Rattle.words.proofs.Names.{words-few}
+use Rattle.model.specs.Terms.{Term}
+use Rattle.model.specs.Ledgers.{Ledger}
+use Rattle.model.specs.Questions.{soundUnder}
+use Rattle.decisions.specs.Promises.{LedgerOf, countingMarks}
+use Rattle.extracts.proofs.Filling.{Filled, filled-start, filled-end, turn-length, turn-half}
+use Rattle.extracts.proofs.mark_sound.Statement.{statement}
+use Rattle.extracts.proofs.mark_sound.Tie as tie
+
+abbrev Inv-loop : tie.InvT-loop
+Inv-loop ledger n grants marks see₀ change₀ words w₀ see change w =
+    (w ≤ words)
+    × ((length see ≡ 512) × (length change ≡ 512))
+    × ((l : Ledger) (L : Term) → LedgerOf ledger n grants l → marks ≡ countingMarks n L l → Filled n (soundUnder l L) w see change)
+
+abbrev μ-loop : tie.MeasureT-loop
+μ-loop ledger n grants marks see₀ change₀ words w₀ see change w = words - w
+
+-- there are 64 words at most
+few : (c : tie.In-loop Inv-loop μ-loop) → c .before .loop .w < 64
+few c = omega (arith, c .before .before .word-count .ensures, words-few (c .before .before .before .before .args .n))
+
+names-most : {bytes : List ℕ} {n grants : ℕ} {l : Ledger} → LedgerOf bytes n grants l → n ≤ 12
+names-most {bytes} {n} {grants} {l} is = omega (arith, is .names, names-range bytes l (is .is) .1)
+
+word-count-requires : tie.Need-word-count-requires Inv-loop μ-loop
+word-count-requires c κs = search needs
+
+loop-holds : tie.Need-loop-holds Inv-loop μ-loop
+loop-holds c =
+    let a = c .before .before in
+    (omega arith, (ap length (a .pre .0), ap length (a .pre .1)), λ l L is m. filled-start (a .args .n) (soundUnder l L) (a .args .see .now) (a .args .change .now) (a .pre .0) (a .pre .1))
+
+sound-word-requires : tie.Need-sound-word-requires Inv-loop μ-loop
+sound-word-requires c κs = search needs
+
+put-word-requires : tie.Need-put-word-requires Inv-loop μ-loop
+put-word-requires c κs =
+    let l = c .before .before .before in
+    (few (c .before .before), l .loop .inv .1 .0)
+
+put-word-requires-2 : tie.Need-put-word-requires-2 Inv-loop μ-loop
+put-word-requires-2 c κs =
+    let l = c .before .before .before .before .before in
+    (few (c .before .before .before .before), l .loop .inv .1 .1)
+
+add-w : tie.Need-add-w Inv-loop μ-loop
+add-w c = omega (arith, few (c .before .before .before .before .before))
+
+loop-less : tie.Need-loop-less Inv-loop μ-loop
+loop-less c = omega arith
+
+loop-again : tie.Need-loop-again Inv-loop μ-loop
+loop-again c =
+    let first = c .before .before in
+    let sound = first .before .before in
+    let l = sound .before .before .loop in
+    let a = sound .before .before .before .before .before .args in
+    let h = few (sound .before) in (
+      omega arith,
+      (
+        turn-length (l .see) (first .put-word .last .0) (l .w) (sound .sound-word .result .see) h (first .put-word .ensures) (l .inv .1 .0),
+        turn-length (l .change) (c .put-word2 .last .0) (l .w) (sound .sound-word .result .change) h (c .put-word2 .ensures) (l .inv .1 .1),
+      ),
+      λ g L is m. record {
+        see-half = turn-half (l .see) (first .put-word .last .0) (l .w) (sound .sound-word .result .see) h (first .put-word .ensures) (mark (a .n) (soundUnder g L confidentiality)) (sound .sound-word .ensures g L is m .see-word) (l .inv .2 g L is m .see-half);
+        change-half = turn-half (l .change) (c .put-word2 .last .0) (l .w) (sound .sound-word .result .change) h (c .put-word2 .ensures) (mark (a .n) (soundUnder g L integrity)) (sound .sound-word .ensures g L is m .change-word) (l .inv .2 g L is m .change-half);
+      },
+    )
+
+returns : tie.Need-returns Inv-loop μ-loop
+returns c =
+    let l = c .before .loop in
+    let n = c .before .before .before .before .args .n in
+    λ g L is m. filled-end n (soundUnder g L) (l .w) (l .see) (l .change) (names-most is) (omega (arith, c .before .before .word-count .ensures)) (l .inv .2 g L is m)
+
+pub mark-sound-spec : {M : Type 1} → statement M
+mark-sound-spec =
+    tie.close
+    (tie.spec
+    Inv-loop
+    μ-loop
+    word-count-requires
+    loop-holds
+    sound-word-requires
+    put-word-requires
+    put-word-requires-2
+    add-w
+    loop-less
+    loop-again
+    returns)

@@ -1,0 +1,93 @@
+// The extract call (document 01, "Extract").
+use ledgers::LedgerReading;
+use terms::TermReading;
+ghost use mathlib.Core.Path.{_≡_};
+ghost use Prim.Native.Nat.{_+_, _*_, _≤_, _<_};
+ghost use lib.ListN.{length};
+ghost use lib.Seq.{paste};
+ghost use Rattle.model.specs.Terms.{Term};
+ghost use Rattle.model.specs.Ledgers.{Ledger};
+ghost use Rattle.model.specs.Questions.{soundUnder};
+ghost use Rattle.model.specs.Extracts.{extract};
+ghost use Rattle.decisions.specs.Promises.{LedgerOf, countingMarks};
+ghost use Rattle.extracts.specs.Halves.{littleEndian, blank, Halves};
+ghost use Rattle.extracts.specs.Results.{outcome};
+
+// Bytes 8 × w to 8 × w + 7 of a half become those of a word of marks, lowest first: coalition c is bit c mod 8 of byte c div 8.
+fn put_word(half: &mut [u8; 512], w: usize, word: u64)
+    requires { ⌜ (w < 64) × (length (now half) ≡ 512) ⌝ }
+    ensures { λ _. ⌜ now (half .exit) ≡ paste (now (half .entry)) (8 * w) (littleEndian 8 word) 8 ⌝ }
+{
+    let mut k: usize = 0;
+    while k < 8 {
+        half[8 * w + k] = ((word >> (8 * k)) % 256) as u8;
+        k += 1;
+    }
+}
+
+// Marks the sound coalitions in both halves, which are all 00 before. `marks` are the grants that count.
+fn mark_sound(
+    ledger: &[u8],
+    n: u64,
+    grants: usize,
+    marks: u64,
+    see: &mut [u8; 512],
+    change: &mut [u8; 512],
+)
+    requires { ⌜ (now see ≡ blank 512) × (now change ≡ blank 512) ⌝ }
+    ensures { λ _. ⌜ ((l : Ledger) (L : Term) → LedgerOf (now (ledger .entry)) n grants l → marks ≡ countingMarks n L l → Halves n (soundUnder l L) (now (see .exit)) (now (change .exit))) ⌝ }
+{
+    let words = words::word_count(n);
+    let mut w: u64 = 0;
+    while w < words {
+        let sound = decisions::sound_word(ledger, n, grants, marks, w);
+        let at = w as usize;
+        put_word(see, at, sound.see);
+        put_word(change, at, sound.change);
+        w += 1;
+    }
+}
+
+// The buffer's 512 bytes from `at` on become those of a half.
+fn copy_half(half: &[u8; 512], buffer: &mut [u8], at: usize)
+    requires { ⌜ (length (now half) ≡ 512) × (at + 512 ≤ length (now buffer)) ⌝ }
+    ensures { λ _. ⌜ now (buffer .exit) ≡ paste (now (buffer .entry)) at (now (half .entry)) 512 ⌝ }
+{
+    let mut k: usize = 0;
+    while k < 512 {
+        buffer[at + k] = half[k];
+        k += 1;
+    }
+}
+
+// What an extract call gives.
+pub enum Extracted {
+    Written,
+    // The number of the refusal: 51, the ledger's 10 to 14, the label's 41 to 44.
+    Refused(u8),
+}
+
+// Writes the extract of a ledger under a label. The buffer is written once nothing can be refused any more.
+pub fn extract(ledger: &[u8], label: &[u8], buffer: &mut [u8]) -> Extracted
+    ensures { λ r. ⌜ outcome r (now (buffer .exit)) ≡ extract (now (ledger .entry)) (now (label .entry)) (now (buffer .entry)) ⌝ }
+{
+    if buffer.len() != 1024 {
+        return Extracted::Refused(51);
+    }
+    let read = ledgers::read_ledger(ledger);
+    let LedgerReading::Accepted { names, grants } = read else {
+        return Extracted::Refused(ledgers::ledger_refusal(read));
+    };
+    let said = terms::read_term(label, names);
+    let TermReading::Accepted = said else {
+        let refusal = 40 + terms::term_refusal(said);
+        return Extracted::Refused(refusal);
+    };
+    let marks = decisions::counting(ledger, names, grants, label);
+    let mut see = [0u8; 512];
+    let mut change = [0u8; 512];
+    mark_sound(ledger, names, grants, marks, &mut see, &mut change);
+    copy_half(&see, buffer, 0);
+    copy_half(&change, buffer, 512);
+    Extracted::Written
+}

@@ -1,0 +1,8 @@
+-- What the proofs of the functions cite.
+pub mod Tables
+pub mod Needed
+pub mod Reduced
+pub mod Fronts
+pub mod Bits
+pub mod Sides
+pub mod Answering

@@ -1,0 +1,68 @@
+-- A coalition is listed if every member is needed: for terms, which are monotone, these are the minimal coalitions. Assumes nothing.
+use mathlib.Core.Path.{_≡_, sym, ap, _∙_}
+use mathlib.Core.Bool.{Bool, true, false, not}
+use mathlib.Core.List.{List}
+use mathlib.Core.Logic.{_↔_}
+use Prim.Native.Nat.{ℕ, _-_, _*_, _/_, _%_, _^_, _≤_, _<_}
+use native.Mathlib.Nat.{one-mul, mod-eq-of-lt}
+use native.Mathlib.Omega.{arith}
+use lib.Pow.{pow-mono}
+use borrow.Author.Tests.{eq-eqb, ne-eqb, not-true}
+use Rattle.model.specs.Answers.{Side}
+use Rattle.model.specs.Terms.{Term, codes, NamesBelow, member, held}
+use Rattle.model.specs.Grants.{implies, every}
+use Rattle.model.specs.ShortForms.{minimal, listed}
+use Rattle.model.proofs.Truth.{and-intro, and-left, and-right, implies-elim, implies-intro, bool-ext}
+use Rattle.model.proofs.Search.{every-elim, every-intro}
+use Rattle.model.proofs.Monotone.{NoneLess, member-le, held-monotone, minimal-says}
+use Rattle.model.proofs.Listed.{those-cong}
+use Rattle.words.specs.Evaluation.{wordsOf}
+use Rattle.short_forms.specs.Listings.{marked, Tabled, irredundant, listing}
+use Rattle.short_forms.proofs.Tables.{tabled-marks}
+
+-- the code's `1 << i`
+pub shifted : (i : ℕ) → i ≤ 12 → 1 * 2 ^ i % 2 ^ 64 ≡ 2 ^ i
+shifted i h = ap (λ (x : ℕ). x % 2 ^ 64) (one-mul (2 ^ i)) ∙ mod-eq-of-lt (omega (arith, pow-mono h))
+
+-- the code's test of bit i, and the number without it
+module _ (i c : ℕ) where
+  pub is-member : c / 2 ^ i % 2 ≡ 1 → member i c ≡ true
+  unfolding member
+  is-member e = eq-eqb (c / 2 ^ i % 2) 1 e
+
+  pub no-member : (c / 2 ^ i % 2 ≡ 1 → ⊥) → member i c ≡ false
+  unfolding member
+  no-member e = ne-eqb (c / 2 ^ i % 2) 1 e
+
+  pub less-fits : i ≤ 12 → c / 2 ^ i % 2 ≡ 1 → 1 * 2 ^ i % 2 ^ 64 ≤ c
+  less-fits h e = rw (shifted i h) (member-le i c (is-member e))
+
+module _ (n : ℕ) (f : ℕ → Bool) (c : ℕ) where
+  needed : ℕ → Bool
+  needed i = implies (member i c) (not (f (c - 2 ^ i)))
+
+  pub irredundant-says : irredundant n f c ≡ true ↔ ((f c ≡ true) × NoneLess n f c)
+  unfolding irredundant needed
+  irredundant-says = (
+    λ e. (
+      and-left (f c) (every needed n) e,
+      λ i l m. not-true (f (c - 2 ^ i)) (implies-elim (member i c) (not (f (c - 2 ^ i))) (every-elim needed n (and-right (f c) (every needed n) e) i l) m),
+    ),
+    λ w. and-intro (w .0) (every-intro needed n (λ i l. implies-intro (member i c) (not (f (c - 2 ^ i))) (λ m. ap not (w .1 i l m)))),
+  )
+
+-- the table's listing is the term's
+pub listing-listed : (bytes : List ℕ) (s : Side) (words : List ℕ) (n : ℕ) (t : Term) → n ≤ 12 → Tabled bytes s words (wordsOf n) → bytes ≡ codes t → NamesBelow n t
+    → listing n (irredundant n (marked words)) ≡ listed n (held t s)
+unfolding listing listed
+listing-listed bytes s words n t h done e b = rw (those-cong (irredundant n (marked words)) (minimal n (held t s)) 0 (2 ^ n) (λ c z l. same c (omega arith)))
+  where
+    marks : (c : ℕ) → c < 2 ^ n → marked words c ≡ held t s c
+    marks = tabled-marks bytes s words n t h done e b
+
+    same : (c : ℕ) → c < 2 ^ n → irredundant n (marked words) c ≡ minimal n (held t s) c
+    same c l =
+        let says = minimal-says n (held t s) c (held-monotone n t s b) l in
+        bool-ext (irredundant n (marked words) c) (minimal n (held t s) c)
+        (λ i. let w = irredundant-says n (marked words) c .0 i in says .1 (sym (marks c l) ∙ w .0, λ i h m. sym (marks (c - 2 ^ i) (omega arith)) ∙ w .1 i h m))
+        (λ i. let w = says .0 i in irredundant-says n (marked words) c .1 (marks c l ∙ w .0, λ i h m. marks (c - 2 ^ i) (omega arith) ∙ w .1 i h m))

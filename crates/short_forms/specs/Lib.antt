@@ -1,0 +1,2 @@
+-- What the promises of the short form cite.
+pub mod Listings

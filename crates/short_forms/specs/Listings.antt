@@ -1,0 +1,58 @@
+-- What the promises of the short form's code cite. The short form itself is the model's `shorten` (document 01, "Short form").
+-- Assumes nothing: these are definitions.
+use mathlib.Core.Path.{_≡_}
+use mathlib.Core.Bool.{Bool, not, _&&_}
+use mathlib.Core.List.{List, _++_}
+use Prim.Native.Nat.{ℕ, _-_, _/_, _%_, _^_, _<_}
+use lib.ListN.{length, getD, drop}
+use Rattle.model.specs.Bytes.{bigEndian}
+use Rattle.model.specs.Answers.{Side, Answer, Outcome}
+use Rattle.model.specs.Answers as answers
+use Rattle.model.specs.Terms.{Term, codes, NamesBelow, member, held}
+use Rattle.model.specs.Grants.{implies, every}
+use Rattle.model.specs.ShortForms.{those, pairs, shortForm}
+use Rattle.words.specs.Evaluation.{heldWord}
+use Rattle.short_forms.specs.declared.ShortForm.{ShortForm}
+use Rattle.short_forms.specs.declared.ShortForm.the-variants.{Written, Refused}
+
+-- what each case of the answer is in document 01
+abbrev pub answerOf : ShortForm → Answer
+answerOf (Written k) = answers.Written k
+answerOf (Refused r) = answers.Refused r
+
+-- the answer, and the lent buffer afterwards
+abbrev pub outcomeOf : ShortForm → List ℕ → Outcome
+outcomeOf r after = record { answer = answerOf r; buffer = after }
+
+-- the mark of coalition c in a table of words: bit c mod 64 of word c div 64
+unfoldable pub marked : List ℕ → ℕ → Bool
+marked words c = member (c % 64) (getD words (c / 64) 0)
+
+-- of whatever term these bytes are the codes, the first k words tell where it is held on the side
+pub record Tabled (bytes : List ℕ) (s : Side) (words : List ℕ) (k : ℕ) : Type 0 where
+  pub holds : (n : ℕ) (t : Term) → bytes ≡ codes t → NamesBelow n t → (w : ℕ) → w < k → getD words w 0 ≡ heldWord t s w
+
+-- c has the name i as a member, and without it is one of f
+unfoldable pub markedWithout : ℕ → (ℕ → Bool) → ℕ → Bool
+markedWithout i f c = member i c && f (c - 2 ^ i)
+
+-- the numbers first + j for the bits j of a word, ascending
+unfoldable pub bitsOf : ℕ → ℕ → List ℕ
+bitsOf word first = those (λ c. member (c - first) word) first 64
+
+-- one of f, and with any one member less it is not
+unfoldable pub irredundant : ℕ → (ℕ → Bool) → ℕ → Bool
+irredundant n f c = f c && every (λ i. implies (member i c) (not (f (c - 2 ^ i)))) n
+
+-- a count and the coalitions of f, ascending, two bytes each
+unfoldable pub listing : ℕ → (ℕ → Bool) → List ℕ
+listing n f = bigEndian (length (those f 0 (2 ^ n))) ++ pairs (those f 0 (2 ^ n))
+
+-- the buffer's first bytes are these, as many as `len`; later bytes keep their content
+pub record FrontWritten (bytes before after : List ℕ) (len : ℕ) : Type 0 where
+  pub size : len ≡ length bytes
+  pub content : after ≡ bytes ++ drop (length bytes) before
+
+-- of whatever term of n names these codes are, its short form is written
+pub record ShortWritten (n : ℕ) (bytes before after : List ℕ) (len : ℕ) : Type 0 where
+  pub term : (t : Term) → bytes ≡ codes t → NamesBelow n t → FrontWritten (shortForm n (held t)) before after len

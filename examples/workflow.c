@@ -1,0 +1,315 @@
+/*
+ * A workflow program: it makes two ledgers, asks about them, and prints the answers for a person.
+ *
+ *     make demo
+ *     cc examples/workflow.c $(PKG_CONFIG_PATH=build pkg-config --cflags --libs rights)
+ */
+#include "rights.h"
+
+#include <stdio.h>
+#include <string.h>
+
+/* ---- Making a ledger ---- */
+
+struct term {
+    uint8_t length;
+    uint8_t codes[RIGHTS_TERM_MAX];
+};
+
+/* A term from its codes: TERM(RIGHTS_BOTH, 0, 1). */
+#define TERM(...) \
+    ((struct term){sizeof(uint8_t[]){__VA_ARGS__}, {__VA_ARGS__}})
+
+struct ledger {
+    size_t length;
+    uint8_t bytes[RIGHTS_LEDGER_MAX];
+};
+
+static void put_two_bytes(uint8_t *at, unsigned value)
+{
+    at[0] = (uint8_t)(value >> 8);
+    at[1] = (uint8_t)value;
+}
+
+static void write_check(uint8_t *block)
+{
+    uint32_t sum = 0;
+    for (uint32_t i = 0; i < 510; i++)
+        sum += (i + 1) * block[i];
+    put_two_bytes(block + 510, sum % 65521);
+}
+
+/* A ledger for a job of n names, without grants. */
+static void start_ledger(struct ledger *ledger, unsigned n)
+{
+    memset(ledger, 0, sizeof *ledger);
+    ledger->length = RIGHTS_BLOCK_SIZE;
+    ledger->bytes[0] = 1;
+    ledger->bytes[1] = (uint8_t)n;
+    write_check(ledger->bytes);
+}
+
+/* One more grant: p acts for q, said under a label. At most RIGHTS_GRANTS_MAX. */
+static void add_grant(struct ledger *ledger, struct term p, struct term q, struct term label)
+{
+    uint8_t *block = ledger->bytes + ledger->length;
+    block[0] = 2;
+    block[1] = p.length;
+    block[2] = q.length;
+    block[3] = label.length;
+    memcpy(block + 16, p.codes, p.length);
+    memcpy(block + 80, q.codes, q.length);
+    memcpy(block + 144, label.codes, label.length);
+    write_check(block);
+
+    ledger->length += RIGHTS_BLOCK_SIZE;
+    put_two_bytes(ledger->bytes + 2, (unsigned)(ledger->length / RIGHTS_BLOCK_SIZE - 1));
+    write_check(ledger->bytes);
+}
+
+/* ---- Words for a person ---- */
+
+static const char *const side_words[] = {"see", "change"};
+
+static const char *refusal_words(unsigned refusal)
+{
+    switch (refusal) {
+    case RIGHTS_TERM_LENGTH: return "the term has no codes, or over 64";
+    case RIGHTS_TERM_CODE: return "the term has a byte that is no code, or an unknown name";
+    case RIGHTS_TERM_ENDS: return "the term ends too early";
+    case RIGHTS_TERM_LEFT_OVER: return "codes are left after the term";
+    case RIGHTS_NAMES: return "a job has 1 to 12 names";
+    case RIGHTS_SHORT_FORM_BUFFER: return "the buffer for the short form is too short";
+    case RIGHTS_LEDGER_LENGTH: return "the ledger's length is wrong";
+    case RIGHTS_LEDGER_CHECK: return "a check of the ledger fails";
+    case RIGHTS_LEDGER_HEADER: return "the ledger's first block is malformed";
+    case RIGHTS_LEDGER_GRANT: return "a grant's block is malformed";
+    case RIGHTS_LEDGER_TERM: return "a grant has a malformed term";
+    case RIGHTS_P_LENGTH: return "p has no codes, or over 64";
+    case RIGHTS_P_CODE: return "p has a byte that is no code, or an unknown name";
+    case RIGHTS_P_ENDS: return "p ends too early";
+    case RIGHTS_P_LEFT_OVER: return "codes are left after p";
+    case RIGHTS_Q_LENGTH: return "q has no codes, or over 64";
+    case RIGHTS_Q_CODE: return "q has a byte that is no code, or an unknown name";
+    case RIGHTS_Q_ENDS: return "q ends too early";
+    case RIGHTS_Q_LEFT_OVER: return "codes are left after q";
+    case RIGHTS_LABEL_LENGTH: return "the label has no codes, or over 64";
+    case RIGHTS_LABEL_CODE: return "the label has a byte that is no code, or an unknown name";
+    case RIGHTS_LABEL_ENDS: return "the label ends too early";
+    case RIGHTS_LABEL_LEFT_OVER: return "codes are left after the label";
+    case RIGHTS_EXTRACT_BUFFER: return "an extract takes a buffer of 1,024 bytes";
+    case RIGHTS_DERIVATION_LENGTH: return "the derivation's length is wrong";
+    case RIGHTS_STEP_FORM: return "the step is malformed";
+    case RIGHTS_STEP_P: return "the step's p is no term";
+    case RIGHTS_STEP_Q: return "the step's q is no term";
+    case RIGHTS_STEP_PREMISE: return "a premise is not an earlier step";
+    case RIGHTS_STEP_GRANT: return "there is no such grant";
+    case RIGHTS_STEP_NOT_COUNTING: return "the grant doesn't count under this label";
+    case RIGHTS_STEP_RULE: return "the step doesn't follow by its rule";
+    default: return "for a reason this program doesn't know";
+    }
+}
+
+static char letter(unsigned name)
+{
+    return (char)('A' + name);
+}
+
+/* Prints a coalition as a set: {A,C}. */
+static void print_coalition(unsigned coalition)
+{
+    const char *before = "";
+    putchar('{');
+    for (unsigned name = 0; name < RIGHTS_NAMES_MAX; name++)
+        if (coalition >> name & 1) {
+            printf("%s%c", before, letter(name));
+            before = ",";
+        }
+    putchar('}');
+}
+
+static const uint8_t *print_codes(const uint8_t *codes);
+
+/* Prints the term that starts at codes in brackets; two parts have their own. */
+static const uint8_t *print_in_brackets(const uint8_t *codes)
+{
+    if (*codes == RIGHTS_BOTH || *codes == RIGHTS_EITHER)
+        return print_codes(codes);
+    putchar('(');
+    codes = print_codes(codes);
+    putchar(')');
+    return codes;
+}
+
+/* Prints the term that starts at codes, and gives what stands behind it. */
+static const uint8_t *print_codes(const uint8_t *codes)
+{
+    uint8_t code = *codes++;
+    switch (code) {
+    case RIGHTS_STRONGEST:
+        fputs("the strongest", stdout);
+        return codes;
+    case RIGHTS_WEAKEST:
+        fputs("anyone", stdout);
+        return codes;
+    case RIGHTS_BOTH:
+    case RIGHTS_EITHER:
+        putchar('(');
+        codes = print_codes(codes);
+        fputs(code == RIGHTS_BOTH ? " and " : " or ", stdout);
+        codes = print_codes(codes);
+        putchar(')');
+        return codes;
+    case RIGHTS_SEE_OF:
+    case RIGHTS_CHANGE_OF:
+        fputs(side_words[code - RIGHTS_SEE_OF], stdout);
+        return print_in_brackets(codes);
+    default:
+        putchar(letter(code));
+        return codes;
+    }
+}
+
+/* Prints a term that is known to be well formed. */
+static void print_term(const struct term *term)
+{
+    print_codes(term->codes);
+}
+
+static void print_answer(uint32_t answer)
+{
+    switch (rights_kind_of(answer)) {
+    case RIGHTS_YES:
+        puts("yes");
+        break;
+    case RIGHTS_NO:
+        fputs("no: ", stdout);
+        print_coalition(rights_coalition_of(answer));
+        printf(" refutes it on the %s side\n", side_words[rights_side_of(answer)]);
+        break;
+    default:
+        fputs("refused", stdout);
+        if (rights_refusal_of(answer) >= RIGHTS_STEP_FORM)
+            printf(" at step %u", rights_step_of(answer));
+        printf(": %s\n", refusal_words(rights_refusal_of(answer)));
+    }
+}
+
+/* ---- Asking ---- */
+
+static void ask_acts_for(const struct ledger *ledger, struct term p, struct term q, struct term label)
+{
+    fputs("  does ", stdout);
+    print_term(&p);
+    fputs(" act for ", stdout);
+    print_term(&q);
+    fputs(", under ", stdout);
+    print_term(&label);
+    fputs("?  ", stdout);
+    print_answer(rights_acts_for(ledger->bytes, ledger->length, p.codes, p.length, q.codes, q.length,
+                                 label.codes, label.length));
+}
+
+static void ask_flows_to(const struct ledger *ledger, struct term p, struct term q, struct term label)
+{
+    fputs("  does ", stdout);
+    print_term(&p);
+    fputs(" flow to ", stdout);
+    print_term(&q);
+    fputs("?  ", stdout);
+    print_answer(rights_flows_to(ledger->bytes, ledger->length, p.codes, p.length, q.codes, q.length,
+                                 label.codes, label.length));
+}
+
+/* Prints the coalitions of n names that are sound on each side. */
+static void show_extract(const struct ledger *ledger, unsigned n, struct term label)
+{
+    uint8_t extract[RIGHTS_EXTRACT_SIZE];
+    uint32_t answer = rights_extract(ledger->bytes, ledger->length, label.codes, label.length, extract, sizeof extract);
+    if (rights_kind_of(answer) != RIGHTS_YES) {
+        print_answer(answer);
+        return;
+    }
+    for (unsigned side = RIGHTS_SEE; side <= RIGHTS_CHANGE; side++) {
+        printf("  sound on the %s side:", side_words[side]);
+        for (unsigned coalition = 0; coalition < 1u << n; coalition++)
+            if (rights_extract_has(extract, side, coalition)) {
+                putchar(' ');
+                print_coalition(coalition);
+            }
+        putchar('\n');
+    }
+}
+
+static unsigned two_bytes(const uint8_t *at)
+{
+    return at[0] * 256u + at[1];
+}
+
+/* Prints the smallest coalitions that hold a term, on each side. */
+static void show_short_form(unsigned n, struct term term)
+{
+    static uint8_t buffer[RIGHTS_SHORT_FORM_MIN];
+    uint32_t answer = rights_short_form(n, term.codes, term.length, buffer, sizeof buffer);
+    if (rights_kind_of(answer) != RIGHTS_YES) {
+        print_answer(answer);
+        return;
+    }
+    const uint8_t *at = buffer;
+    for (unsigned side = RIGHTS_SEE; side <= RIGHTS_CHANGE; side++) {
+        unsigned count = two_bytes(at);
+        at += 2;
+        fputs("  ", stdout);
+        print_term(&term);
+        printf(" is held on the %s side by each set with:", side_words[side]);
+        for (; count > 0; count--, at += 2) {
+            putchar(' ');
+            print_coalition(two_bytes(at));
+        }
+        putchar('\n');
+    }
+}
+
+/* Two steps: grant 0 as it stands, then the see sides of its terms. */
+static void check_derivation(const struct ledger *ledger, struct term label)
+{
+    static const uint8_t derivation[2][RIGHTS_STEP_SIZE] = {
+        {[0] = 2, [3] = 0, [4] = 1, [5] = 1, [8] = 0, [72] = 1},
+        {[0] = 6, [1] = 0, [4] = 2, [5] = 2, [8] = RIGHTS_SEE_OF, 0, [72] = RIGHTS_SEE_OF, 1},
+    };
+    fputs("  is it derived that see(A) acts for see(B), under ", stdout);
+    print_term(&label);
+    fputs("?  ", stdout);
+    print_answer(rights_check_derivation(derivation[0], sizeof derivation, ledger->bytes, ledger->length,
+                                         label.codes, label.length));
+}
+
+int main(void)
+{
+    static struct ledger plain, granted;
+    const struct term a = TERM(0), b = TERM(1), c = TERM(2), anyone = TERM(RIGHTS_WEAKEST);
+    const struct term change_of_b = TERM(RIGHTS_CHANGE_OF, 1);
+
+    start_ledger(&plain, 2);
+    puts("A job of A and B, no grants:");
+    ask_acts_for(&plain, TERM(RIGHTS_BOTH, 0, 1), a, anyone);
+    ask_acts_for(&plain, TERM(RIGHTS_EITHER, 0, 1), a, anyone);
+    ask_acts_for(&plain, a, c, anyone);
+    ask_flows_to(&plain, TERM(RIGHTS_SEE_OF, 0), TERM(RIGHTS_SEE_OF, RIGHTS_BOTH, 0, 1), anyone);
+    ask_flows_to(&plain, TERM(RIGHTS_SEE_OF, RIGHTS_BOTH, 0, 1), TERM(RIGHTS_SEE_OF, 0), anyone);
+    show_short_form(2, TERM(RIGHTS_EITHER, 0, RIGHTS_BOTH, 0, 1));
+
+    start_ledger(&granted, 2);
+    add_grant(&granted, a, b, change_of_b);
+    puts("With the grant that A acts for B, said under change(B):");
+    ask_acts_for(&granted, a, b, change_of_b);
+    ask_acts_for(&granted, a, b, a);
+    check_derivation(&granted, change_of_b);
+    check_derivation(&granted, a);
+    show_extract(&granted, 2, change_of_b);
+
+    granted.bytes[600] ^= 1;
+    puts("After a byte of that ledger was changed:");
+    ask_acts_for(&granted, a, b, change_of_b);
+    return 0;
+}

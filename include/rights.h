@@ -1,0 +1,228 @@
+/*
+ * rights.h: who may act for whom in a job of the catalogue, decided from its ledger of grants.
+ *
+ * A job has n parties, its names, 1 to 12, numbered from 0. Its ledger says who was granted to act for
+ * whom. Five calls decide questions about it. Each takes bytes and gives one 32-bit number, which the
+ * functions below take apart: yes, no with a counterexample, or refused with a reason.
+ *
+ *     uint32_t answer = rights_acts_for(ledger, ledger_len, p, p_len, q, q_len, label, label_len);
+ *     if (rights_kind_of(answer) == RIGHTS_YES) ...
+ *
+ * Terms. Who p or q is, and how far a label reaches, is said by a term: 1 to 64 bytes, operator first
+ * (enum rights_code). With names 00, 01, 02: `30 00 31 01 02` is 00 together with 01 or 02. A term has
+ * two sides: who may see, and who may change. `40 00` is only the see side of 00, `41 00` only the change
+ * side.
+ *
+ * Coalitions. A coalition is a set of names, written as a number: name i adds 2^i. A coalition holds a
+ * name, on both sides, if it has it as a member; it holds a both where it holds both parts, and so on.
+ * It never holds the strongest party and always holds the weakest. `40 x` is held on the see side where x
+ * is held there, and always on the change side; `41 x` the other way round.
+ *
+ * The ledger. Blocks of 512 bytes; the last two bytes of a block are its check, big-endian: the sum of
+ * (i + 1) times byte i, i from 0 to 509, modulo 65521. Block 0: byte 0 is 01, byte 1 is n, bytes 2 and 3 are
+ * the number of grants, 0 to 64, big-endian. Then a block for each grant: byte 0 is 02; bytes 1, 2, 3 are the
+ * lengths of the terms p, q and d, which begin at bytes 16, 80 and 144: p acts for q, said under label d.
+ * All other bytes are 00.
+ *
+ * The label. Every question is asked under a label, a term too. A grant counts under it if the grant's own
+ * label flows to it (see rights_flows_to, here without grants) and speaks for q: whoever holds d on the
+ * change side holds q on both. A coalition is sound on a side if no counting grant has its p held there
+ * and its q not. Answers look at sound coalitions only: so grants make more questions a yes.
+ *
+ * Slices. A pointer and a length in bytes. Any length and any bytes are safe: what doesn't fit is refused.
+ * With length 0 the pointer is not used and may be null. Otherwise it points to that many bytes, which
+ * nobody writes during the call. A buffer that a call writes must overlap none of the call's other slices;
+ * those may overlap each other.
+ *
+ * State. None: no memory is kept or allocated, no error number or locale is used. Calls are reentrant, and
+ * any number of threads may call at a time. Equal inputs get equal answers.
+ *
+ * Stack. A call takes less than RIGHTS_STACK_BYTES (`make stack-use` measures it).
+ */
+#ifndef RIGHTS_H
+#define RIGHTS_H
+
+#include <stddef.h>
+#include <stdint.h>
+
+#ifdef __cplusplus
+extern "C" {
+#endif
+
+/* Sizes, in bytes unless said otherwise. */
+#define RIGHTS_NAMES_MAX 12        /* names of a job */
+#define RIGHTS_TERM_MAX 64         /* a term */
+#define RIGHTS_BLOCK_SIZE 512      /* a block of a ledger */
+#define RIGHTS_GRANTS_MAX 64       /* grants of a ledger */
+#define RIGHTS_LEDGER_MAX 33280    /* a ledger of 64 grants */
+#define RIGHTS_EXTRACT_SIZE 1024   /* an extract: exactly this much */
+#define RIGHTS_SHORT_FORM_MIN 16388 /* a buffer for a short form: at least this much */
+#define RIGHTS_STEP_SIZE 136       /* a step of a derivation */
+#define RIGHTS_STEPS_MAX 64        /* steps of a derivation */
+#define RIGHTS_DERIVATION_MAX 8704 /* a derivation of 64 steps */
+#define RIGHTS_STACK_BYTES 65536   /* stack of a call: a bound, above what `make stack-use` measures */
+
+/* The codes of a term. 00 to 0B are names. */
+enum rights_code {
+    RIGHTS_STRONGEST = 0x20,
+    RIGHTS_WEAKEST = 0x21,
+    RIGHTS_BOTH = 0x30,      /* of the next two terms */
+    RIGHTS_EITHER = 0x31,    /* of the next two terms */
+    RIGHTS_SEE_OF = 0x40,    /* the see side (confidentiality) of the next term */
+    RIGHTS_CHANGE_OF = 0x41  /* the change side (integrity) of the next term */
+};
+
+enum rights_kind {
+    RIGHTS_YES = 0,     /* yes; of a derivation: accepted; of an extract or a short form: written */
+    RIGHTS_NO = 1,      /* no; see rights_side_of and rights_coalition_of */
+    RIGHTS_REFUSED = 2  /* the call was refused and wrote nothing; see rights_refusal_of */
+};
+
+enum rights_side {
+    RIGHTS_SEE = 0,
+    RIGHTS_CHANGE = 1
+};
+
+/* Why a call was refused: the first that applies, in the order that each call below gives. */
+enum rights_refusal {
+    /* the term of a short form */
+    RIGHTS_TERM_LENGTH = 1,     /* no codes, or over 64 */
+    RIGHTS_TERM_CODE = 2,       /* a byte that is no code, or a name not below n */
+    RIGHTS_TERM_ENDS = 3,       /* the codes end too early */
+    RIGHTS_TERM_LEFT_OVER = 4,  /* codes are left after the term */
+
+    /* a short form's other arguments */
+    RIGHTS_NAMES = 7,               /* n is not 1 to 12 */
+    RIGHTS_SHORT_FORM_BUFFER = 8,   /* the buffer is shorter than RIGHTS_SHORT_FORM_MIN */
+
+    /* the ledger */
+    RIGHTS_LEDGER_LENGTH = 10,  /* not a multiple of 512 from 512 to 33280 */
+    RIGHTS_LEDGER_CHECK = 11,   /* a block's check fails */
+    RIGHTS_LEDGER_HEADER = 12,  /* block 0: its kind, n, a count unlike the number of blocks, or filler */
+    RIGHTS_LEDGER_GRANT = 13,   /* a grant's block: its kind, a term's length, or filler */
+    RIGHTS_LEDGER_TERM = 14,    /* a term of a grant */
+
+    /* the terms of a question, an extract and a derivation check, as 1 to 4 above */
+    RIGHTS_P_LENGTH = 21,
+    RIGHTS_P_CODE = 22,
+    RIGHTS_P_ENDS = 23,
+    RIGHTS_P_LEFT_OVER = 24,
+    RIGHTS_Q_LENGTH = 31,
+    RIGHTS_Q_CODE = 32,
+    RIGHTS_Q_ENDS = 33,
+    RIGHTS_Q_LEFT_OVER = 34,
+    RIGHTS_LABEL_LENGTH = 41,
+    RIGHTS_LABEL_CODE = 42,
+    RIGHTS_LABEL_ENDS = 43,
+    RIGHTS_LABEL_LEFT_OVER = 44,
+
+    RIGHTS_EXTRACT_BUFFER = 51,     /* the buffer is not RIGHTS_EXTRACT_SIZE long */
+
+    RIGHTS_DERIVATION_LENGTH = 60,  /* not a multiple of 136 from 136 to 8704 */
+    /* a step of a derivation: rights_step_of says which */
+    RIGHTS_STEP_FORM = 61,          /* the rule is not 1 to 7, or filler or an unused field is not 00 */
+    RIGHTS_STEP_P = 62,             /* p is no term */
+    RIGHTS_STEP_Q = 63,             /* q is no term */
+    RIGHTS_STEP_PREMISE = 64,       /* a premise is not an earlier step */
+    RIGHTS_STEP_GRANT = 65,         /* there is no such grant */
+    RIGHTS_STEP_NOT_COUNTING = 66,  /* the grant doesn't count under the label */
+    RIGHTS_STEP_RULE = 67           /* the step doesn't meet its rule */
+};
+
+/*
+ * Does p act for q? Yes if, on each side, every sound coalition that holds p holds q. A no gives the first
+ * coalition that doesn't: on the see side if there is one, the lowest number.
+ * Refusals: 10 to 14, 21 to 24, 31 to 34, 41 to 44.
+ */
+uint32_t rights_acts_for(const uint8_t *ledger, size_t ledger_len, const uint8_t *p, size_t p_len,
+                         const uint8_t *q, size_t q_len, const uint8_t *label, size_t label_len);
+
+/*
+ * Does information flow from p to q? Yes if on the see side every sound coalition that holds q holds p, and
+ * on the change side every one that holds p holds q. A no gives a coalition as above.
+ * Refusals: as rights_acts_for.
+ */
+uint32_t rights_flows_to(const uint8_t *ledger, size_t ledger_len, const uint8_t *p, size_t p_len,
+                         const uint8_t *q, size_t q_len, const uint8_t *label, size_t label_len);
+
+/*
+ * Which coalitions are sound under the label? Writes a bit for each into a buffer of RIGHTS_EXTRACT_SIZE
+ * bytes: see rights_extract_has. Two ledgers of the same n with equal extracts answer every question alike.
+ * Refusals: 51, 10 to 14, 41 to 44.
+ */
+uint32_t rights_extract(const uint8_t *ledger, size_t ledger_len, const uint8_t *label, size_t label_len,
+                        uint8_t *buffer, size_t buffer_len);
+
+/*
+ * Which are the smallest coalitions that hold the term, in a job of n names? Writes, for the see side and
+ * then for the change side, how many there are and then each, ascending: two bytes each, big-endian.
+ * rights_length_of is the number of bytes written; later bytes of the buffer stay as they were.
+ * Refusals: 7, 8, 1 to 4.
+ */
+uint32_t rights_short_form(uint64_t n, const uint8_t *term, size_t term_len, uint8_t *buffer, size_t buffer_len);
+
+/*
+ * Is this a derivation: does every step follow by its rule? Then every step's p acts for its q.
+ * A derivation has 1 to 64 steps of 136 bytes: byte 0 the rule, 1 and 2 premises (numbers of earlier steps,
+ * from 0), 3 a grant (from 0), 4 and 5 the lengths of p and q, p from byte 8, q from byte 72, all other
+ * bytes and the fields that a rule doesn't use 00. The rules, terms compared byte for byte:
+ *   1  p acts for q without any grant
+ *   2  the grant in byte 3 counts under the label and has this p and q
+ *   3  the first premise is p for m, the second m for q
+ *   4  q is 30, then the right terms of the two premises; the left terms of both are p
+ *   5  p is 31, then the left terms of the two premises; the right terms of both are q
+ *   6  p and q are 40 and then the terms of the premise in byte 1
+ *   7  the same with 41
+ * Refusals: 10 to 14, 41 to 44, 60, and then, step by step, 61 to 67.
+ */
+uint32_t rights_check_derivation(const uint8_t *derivation, size_t derivation_len,
+                                 const uint8_t *ledger, size_t ledger_len,
+                                 const uint8_t *label, size_t label_len);
+
+/* An answer's kind, an enum rights_kind. */
+static inline unsigned rights_kind_of(uint32_t answer)
+{
+    return answer >> 16;
+}
+
+/* Of a no: the side, an enum rights_side. */
+static inline unsigned rights_side_of(uint32_t answer)
+{
+    return answer >> 12 & 1;
+}
+
+/* Of a no: the coalition. Name i is a member if bit i is set. */
+static inline unsigned rights_coalition_of(uint32_t answer)
+{
+    return answer & 0xFFF;
+}
+
+/* Of a refusal: the reason, an enum rights_refusal. */
+static inline unsigned rights_refusal_of(uint32_t answer)
+{
+    return answer & 0xFF;
+}
+
+/* Of a refusal 61 to 67: the step, from 0. For other refusals 0. */
+static inline unsigned rights_step_of(uint32_t answer)
+{
+    return answer >> 8 & 0xFF;
+}
+
+/* Of a short form that was written: its length. */
+static inline size_t rights_length_of(uint32_t answer)
+{
+    return answer & 0xFFFF;
+}
+
+/* Is the coalition, 0 to 4095, sound on the side, by an extract that was written? */
+static inline int rights_extract_has(const uint8_t *extract, unsigned side, unsigned coalition)
+{
+    return extract[512 * side + coalition / 8] >> coalition % 8 & 1;
+}
+
+#ifdef __cplusplus
+}
+#endif
+
+#endif

@@ -1,0 +1,78 @@
+#include "coverage.h"
+
+#include <stdbool.h>
+
+/* The refusals of each operation, as document 01 lists them; 0 ends a list. */
+static const uint8_t refusals[OPERATIONS][24] = {
+    [ACTS_FOR] = {10, 11, 12, 13, 14, 21, 22, 23, 24, 31, 32, 33, 34, 41, 42, 43, 44},
+    [FLOWS_TO] = {10, 11, 12, 13, 14, 21, 22, 23, 24, 31, 32, 33, 34, 41, 42, 43, 44},
+    [EXTRACT] = {51, 10, 11, 12, 13, 14, 41, 42, 43, 44},
+    [SHORT_FORM] = {7, 8, 1, 2, 3, 4},
+    [DERIVATION] = {10, 11, 12, 13, 14, 41, 42, 43, 44, 60, 61, 62, 63, 64, 65, 66, 67},
+};
+
+void count_answer(struct coverage *coverage, enum operation operation, uint32_t number)
+{
+    if (number >> 16 == 0)
+        coverage->yes[operation]++;
+    else if (number >> 16 == 1)
+        coverage->no[operation][number >> 12 & 1]++;
+    else
+        coverage->refused[operation][number & 255]++;
+}
+
+void count_quote(struct coverage *coverage, size_t length)
+{
+    if (length > 0)
+        coverage->yes[QUOTE]++;
+    else
+        coverage->no[QUOTE][0]++;
+}
+
+/* Prints a count, and gives 1 if it is 0. */
+static unsigned print_count(const char *what, unsigned long count, FILE *to)
+{
+    fprintf(to, "  %s %lu%s", what, count, count == 0 ? " (NEVER MET)" : "");
+    return count == 0;
+}
+
+static unsigned print_refusals(const struct coverage *coverage, unsigned operation, FILE *to)
+{
+    unsigned missing = 0;
+    fprintf(to, "\n             refused:");
+    for (const uint8_t *r = refusals[operation]; *r != 0; r++) {
+        char what[8];
+        snprintf(what, sizeof what, "%u:", *r);
+        missing += print_count(what, coverage->refused[operation][*r], to);
+    }
+    return missing;
+}
+
+static unsigned print_operation(const struct coverage *coverage, unsigned operation, FILE *to)
+{
+    bool question = operation == ACTS_FOR || operation == FLOWS_TO;
+    unsigned missing = 0;
+    fprintf(to, "%-11s", operation_names[operation]);
+    if (operation == QUOTE) {
+        missing += print_count("a part", coverage->yes[operation], to);
+        missing += print_count("an empty part", coverage->no[operation][0], to);
+    } else {
+        missing += print_count(question ? "yes" : "accepted or written", coverage->yes[operation], to);
+    }
+    if (question) {
+        missing += print_count("no, see", coverage->no[operation][0], to);
+        missing += print_count("no, change", coverage->no[operation][1], to);
+    }
+    if (operation != QUOTE)
+        missing += print_refusals(coverage, operation, to);
+    fputc('\n', to);
+    return missing;
+}
+
+unsigned print_coverage(const struct coverage *coverage, unsigned operations, FILE *to)
+{
+    unsigned missing = 0;
+    for (unsigned operation = 0; operation < operations; operation++)
+        missing += print_operation(coverage, operation, to);
+    return missing;
+}

@@ -1,0 +1,820 @@
+#include "random_calls.h"
+
+#include <stdbool.h>
+#include <string.h>
+
+/* No expression here has two draws whose order C leaves open, so every compiler makes the same calls. */
+
+/* ---- Numbers ---- */
+
+/* splitmix64 */
+static uint64_t next(struct source *s)
+{
+    uint64_t x = s->state += 0x9E3779B97F4A7C15u;
+    x = (x ^ x >> 30) * 0xBF58476D1CE4E5B9u;
+    x = (x ^ x >> 27) * 0x94D049BB133111EBu;
+    return x ^ x >> 31;
+}
+
+unsigned below(struct source *s, unsigned end)
+{
+    return (unsigned)((next(s) >> 32) * end >> 32);
+}
+
+static bool one_in(struct source *s, unsigned k)
+{
+    return below(s, k) == 0;
+}
+
+static unsigned between(struct source *s, unsigned low, unsigned high)
+{
+    return low + below(s, high - low + 1);
+}
+
+/* Often one of the two ends. */
+static unsigned edge_or_between(struct source *s, unsigned low, unsigned high)
+{
+    unsigned draw = below(s, 4);
+    return draw == 0 ? low : draw == 1 ? high : between(s, low, high);
+}
+
+static uint8_t any_byte(struct source *s)
+{
+    return (uint8_t)below(s, 256);
+}
+
+static uint8_t nonzero_byte(struct source *s)
+{
+    return (uint8_t)between(s, 1, 255);
+}
+
+/* Mostly few names, since the work grows as 2^n. */
+static unsigned random_names(struct source *s)
+{
+    unsigned draw = below(s, 256);
+    if (draw < 150)
+        return between(s, 1, 5);
+    if (draw < 225)
+        return between(s, 3, 8);
+    return draw < 250 ? between(s, 8, 10) : between(s, 11, 12);
+}
+
+/* ---- Terms ---- */
+
+/* Mostly short, now and then of any length. */
+static unsigned random_size(struct source *s)
+{
+    unsigned draw = below(s, 16);
+    if (draw < 11)
+        return between(s, 1, 5);
+    return draw < 15 ? between(s, 1, 15) : between(s, 1, CODES);
+}
+
+static void put_random_leaf(struct source *s, struct term *term, unsigned n)
+{
+    unsigned draw = below(s, 16);
+    if (draw < 2)
+        put_code(term, STRONGEST + draw);
+    else
+        put_code(term, below(s, n));
+}
+
+/* A term of just so many codes. */
+static void put_random_part(struct source *s, struct term *term, unsigned n, unsigned size)
+{
+    if (size == 1) {
+        put_random_leaf(s, term, n);
+    } else if (size == 2 || one_in(s, 6)) {
+        put_code(term, SEE_OF + below(s, 2));
+        put_random_part(s, term, n, size - 1);
+    } else {
+        unsigned first = between(s, 1, size - 2);
+        put_code(term, BOTH + below(s, 2));
+        put_random_part(s, term, n, first);
+        put_random_part(s, term, n, size - 1 - first);
+    }
+}
+
+static struct term random_term(struct source *s, unsigned n, unsigned size)
+{
+    struct term term = {0};
+    put_random_part(s, &term, n, size);
+    return term;
+}
+
+/* A both of eithers: it has many minimal coalitions. */
+static struct term many_ways(struct source *s, unsigned n)
+{
+    struct term term = {0};
+    unsigned groups = between(s, 2, 6);
+    for (unsigned g = 0; g < groups; g++) {
+        if (g + 1 < groups)
+            put_code(&term, BOTH);
+        for (unsigned i = g + groups; i < n; i += groups) {
+            put_code(&term, EITHER);
+            put_code(&term, i);
+        }
+        put_code(&term, g % n);
+    }
+    return term;
+}
+
+static size_t put_one_side(struct term *to, const struct term *term, size_t at, unsigned side);
+
+/* Leaves one part of the term out; gives the place behind it. */
+static size_t skip_part(const struct term *term, size_t at)
+{
+    struct term dropped = {0};
+    return put_one_side(&dropped, term, at, SEE_OF);
+}
+
+/* Puts the part at a place as it is held on one side, without projections; gives the place behind it. */
+static size_t put_one_side(struct term *to, const struct term *term, size_t at, unsigned side)
+{
+    uint8_t code = term->codes[at++];
+    if (code == BOTH || code == EITHER) {
+        put_code(to, code);
+        at = put_one_side(to, term, at, side);
+        return put_one_side(to, term, at, side);
+    }
+    if (code == side)
+        return put_one_side(to, term, at, side);
+    if (code == SEE_OF || code == CHANGE_OF) {
+        put_code(to, WEAKEST);
+        return skip_part(term, at);
+    }
+    put_code(to, code);
+    return at;
+}
+
+/* A label that is held on the see side always, and on the change side where q is held on both. */
+static struct term speaking_for(const struct term *q)
+{
+    struct term label = one_code(CHANGE_OF);
+    put_code(&label, BOTH);
+    put_one_side(&label, q, 0, SEE_OF);
+    put_one_side(&label, q, 0, CHANGE_OF);
+    return label;
+}
+
+/* ---- Damaged terms ---- */
+
+static unsigned bad_code(struct source *s, unsigned n)
+{
+    static const uint8_t codes[] = {0x0C, 0x0D, 0x1F, 0x22, 0x2F, 0x32, 0x3F, 0x42, 0x7F, 0x80, 0xFE, 0xFF};
+    unsigned draw = below(s, 2 * sizeof codes);
+    return draw < sizeof codes ? codes[draw] : n;
+}
+
+/* Over 64 codes; some lengths are good if only their low byte is looked at. */
+static struct term too_long(struct source *s, unsigned n)
+{
+    struct term term = {0};
+    unsigned size = one_in(s, 2) ? between(s, 65, 67) : between(s, 257, 320);
+    put_random_part(s, &term, n, size);
+    return term;
+}
+
+static struct term random_bytes(struct source *s)
+{
+    struct term term = {0};
+    unsigned size = below(s, 80);
+    for (unsigned i = 0; i < size; i++)
+        put_code(&term, any_byte(s));
+    return term;
+}
+
+static void spoil_code(struct source *s, struct term *term, unsigned n)
+{
+    unsigned place = below(s, (unsigned)term->length);
+    term->codes[place] = (uint8_t)bad_code(s, n);
+}
+
+/* Of a single code an operator alone is left. */
+static void drop_last_code(struct term *term)
+{
+    if (term->length > 1)
+        term->length--;
+    else
+        term->codes[0] = BOTH;
+}
+
+static void damage_term(struct source *s, struct term *term, unsigned n)
+{
+    switch (below(s, 6)) {
+    case 0:
+        term->length = 0;
+        break;
+    case 1:
+        *term = too_long(s, n);
+        break;
+    case 2:
+        spoil_code(s, term, n);
+        break;
+    case 3:
+        drop_last_code(term);
+        if (one_in(s, 4))
+            spoil_code(s, term, n);
+        break;
+    case 4:
+        put_code(term, any_byte(s));
+        break;
+    default:
+        *term = random_bytes(s);
+    }
+}
+
+static void maybe_damage_term(struct source *s, struct term *term, unsigned n)
+{
+    if (one_in(s, 12))
+        damage_term(s, term, n);
+}
+
+/* ---- Ledgers ---- */
+
+static struct term random_grant_label(struct source *s, unsigned n, const struct term *q)
+{
+    struct term never = one_code(STRONGEST), label, other;
+    switch (below(s, 6)) {
+    case 0: /* counts under every label */
+        return prefixed(CHANGE_OF, &never);
+    case 1:
+        return random_term(s, n, random_size(s));
+    case 2:
+        other = random_term(s, n, between(s, 1, 5));
+        return prefixed(CHANGE_OF, &other);
+    default:
+        label = speaking_for(q);
+        return label.length <= CODES ? label : prefixed(CHANGE_OF, &never);
+    }
+}
+
+static void add_random_grant(struct source *s, struct ledger *ledger, unsigned n)
+{
+    struct term p = random_term(s, n, random_size(s));
+    struct term q = random_term(s, n, random_size(s));
+    struct term label = random_grant_label(s, n, &q);
+    add_grant(ledger, &p, &q, &label);
+}
+
+static void add_last_grant_again(struct ledger *ledger)
+{
+    size_t last = grant_count(ledger) - 1;
+    struct term p = term_of_grant(ledger, last, 0), q = term_of_grant(ledger, last, 1);
+    struct term label = term_of_grant(ledger, last, 2);
+    add_grant(ledger, &p, &q, &label);
+}
+
+static unsigned random_grant_count(struct source *s, unsigned n)
+{
+    unsigned draw = below(s, 64);
+    if (draw < 8)
+        return 0;
+    if (draw < 48)
+        return between(s, 1, 4);
+    if (draw < 63 || (n > 8 && !one_in(s, 4)))
+        return between(s, 1, 9);
+    return one_in(s, 3) ? GRANTS : below(s, GRANTS + 1);
+}
+
+static void random_ledger(struct source *s, struct ledger *ledger, unsigned n)
+{
+    unsigned count = random_grant_count(s, n);
+    start_ledger(ledger, n);
+    for (unsigned i = 0; i < count; i++)
+        if (i > 0 && i + 1 < count && count > 9 && !one_in(s, 16))
+            add_last_grant_again(ledger); /* many different ones would leave nothing sound */
+        else
+            add_random_grant(s, ledger, n);
+}
+
+/* ---- Damaged ledgers ---- */
+
+static size_t bad_ledger_length(struct source *s, size_t length)
+{
+    static const uint16_t lengths[] = {0, 1, 511, 513, 33279, 33281, 33792, 34304};
+    unsigned draw = below(s, 12);
+    if (draw < 8)
+        return lengths[draw];
+    return draw < 10 || length == 0 ? length + 1 : length - 1;
+}
+
+/* Bytes that the builder didn't write, in a ledger made longer, are 00. */
+static void set_ledger_length(struct ledger *ledger, size_t length)
+{
+    if (length > ledger->length)
+        memset(ledger->bytes + ledger->length, 0, length - ledger->length);
+    ledger->length = length;
+}
+
+static void damage_header(struct source *s, uint8_t *block)
+{
+    static const uint8_t bad_names[] = {0, 13, 14, 128, 255};
+    unsigned place;
+    switch (below(s, 4)) {
+    case 0:
+        block[0] = one_in(s, 2) ? 2 : any_byte(s);
+        break;
+    case 1:
+        block[1] = bad_names[below(s, sizeof bad_names)];
+        break;
+    case 2:
+        place = between(s, 2, 3);
+        block[place] ^= nonzero_byte(s);
+        break;
+    default:
+        place = edge_or_between(s, 4, 509);
+        block[place] = nonzero_byte(s);
+    }
+    seal(block);
+}
+
+/* The byte behind a term's field or just behind its term, or any byte of filler. */
+static unsigned filler_place(struct source *s, const uint8_t *block)
+{
+    unsigned which = below(s, 3);
+    switch (below(s, 4)) {
+    case 0:
+        return edge_or_between(s, 4, 15);
+    case 1:
+        return edge_or_between(s, 208, 509);
+    case 2:
+        return 16 + 64 * which + block[1 + which];
+    default:
+        return 16 + 64 * which + 63;
+    }
+}
+
+static size_t at_most_codes(size_t length)
+{
+    return length <= CODES ? length : CODES;
+}
+
+/* Damages the term that stands in a field of 64 bytes, its length elsewhere. */
+static void damage_field(struct source *s, uint8_t *field, uint8_t *length, unsigned n)
+{
+    struct term term = term_of(field, at_most_codes(*length));
+    damage_term(s, &term, n);
+    memset(field, 0, CODES);
+    memcpy(field, term.codes, at_most_codes(term.length));
+    *length = (uint8_t)term.length;
+}
+
+static void damage_term_of_grant(struct source *s, uint8_t *block, unsigned n)
+{
+    unsigned which = below(s, 3);
+    damage_field(s, block + 16 + 64 * which, &block[1 + which], n);
+}
+
+static void damage_grant(struct source *s, uint8_t *block, unsigned n)
+{
+    unsigned place;
+    switch (below(s, 5)) {
+    case 0:
+        block[0] = one_in(s, 2) ? 1 : any_byte(s);
+        break;
+    case 1:
+        place = between(s, 1, 3);
+        block[place] = one_in(s, 2) ? 65 : any_byte(s);
+        break;
+    case 2:
+        place = filler_place(s, block);
+        block[place] = nonzero_byte(s);
+        break;
+    default:
+        damage_term_of_grant(s, block, n);
+    }
+    seal(block);
+}
+
+/* The same check once more, where it fits: a number that is right only modulo 65,521. */
+static void damage_check(uint8_t *block)
+{
+    unsigned check = block[510] * 256u + block[511];
+    check = check + 65521 <= 65535 ? check + 65521 : check ^ 1;
+    block[510] = (uint8_t)(check >> 8);
+    block[511] = (uint8_t)check;
+}
+
+static void damage_ledger(struct source *s, struct ledger *ledger, unsigned n)
+{
+    unsigned blocks = (unsigned)(ledger->length / BLOCK), block, place;
+    if (blocks == 0)
+        return;
+    block = below(s, blocks);
+    switch (below(s, 8)) {
+    case 0:
+        set_ledger_length(ledger, bad_ledger_length(s, ledger->length));
+        break;
+    case 1:
+        damage_check(block_of(ledger, block));
+        break;
+    case 2: /* any byte, without a new check */
+        place = below(s, (unsigned)ledger->length);
+        ledger->bytes[place] ^= nonzero_byte(s);
+        break;
+    case 3:
+    case 4:
+        damage_header(s, block_of(ledger, 0));
+        break;
+    default:
+        if (block > 0)
+            damage_grant(s, block_of(ledger, block), n);
+    }
+}
+
+static void maybe_damage_ledger(struct source *s, struct ledger *ledger, unsigned n)
+{
+    if (!one_in(s, 4))
+        return;
+    damage_ledger(s, ledger, n);
+    if (one_in(s, 4))
+        damage_ledger(s, ledger, n);
+}
+
+/* ---- Labels and the terms of a question ---- */
+
+/* A term of a random grant, or a random term if there are no grants. */
+static struct term some_grant_term(struct source *s, const struct ledger *ledger, unsigned n, unsigned which)
+{
+    unsigned grants = (unsigned)grant_count(ledger);
+    if (grants == 0)
+        return random_term(s, n, random_size(s));
+    return term_of_grant(ledger, below(s, grants), which);
+}
+
+static struct term random_label(struct source *s, const struct ledger *ledger, unsigned n)
+{
+    struct term part;
+    switch (below(s, 6)) {
+    case 0:
+        return some_grant_term(s, ledger, n, 2);
+    case 1:
+        part = random_term(s, n, between(s, 1, 5));
+        return prefixed(CHANGE_OF, &part);
+    case 2:
+        return random_term(s, n, random_size(s));
+    default: /* what is said under any label with a bare change side is visible */
+        return one_code(WEAKEST);
+    }
+}
+
+/* The term, or the other where it is too long. */
+static struct term if_short(const struct term *term, const struct term *otherwise)
+{
+    return term->length <= CODES ? *term : *otherwise;
+}
+
+/* p and q of a grant, or p stronger than a grant's p and q weaker than its q. */
+static void question_on_grant(struct source *s, struct call *call, unsigned n, unsigned grants)
+{
+    unsigned grant = below(s, grants);
+    struct term other, joint;
+    call->p = term_of_grant(&call->ledger, grant, 0);
+    call->q = term_of_grant(&call->ledger, grant, 1);
+    if (one_in(s, 2))
+        return;
+    other = random_term(s, n, between(s, 1, 5));
+    joint = joined(BOTH, &call->p, &other);
+    call->p = if_short(&joint, &call->p);
+    joint = joined(EITHER, &call->q, &other);
+    call->q = if_short(&joint, &call->q);
+}
+
+static void random_question(struct source *s, struct call *call, unsigned n)
+{
+    unsigned grants = (unsigned)grant_count(&call->ledger), draw = below(s, 8);
+    if (grants > 0 && draw < 3) {
+        question_on_grant(s, call, n, grants);
+        return;
+    }
+    call->p = random_term(s, n, random_size(s));
+    call->q = draw == 3 ? call->p : random_term(s, n, random_size(s));
+}
+
+/* ---- Derivations ---- */
+
+static void add_good_step(struct derivation *d, unsigned rule, unsigned first, unsigned second, unsigned grant,
+                          const struct term *p, const struct term *q)
+{
+    if (p->length <= CODES && q->length <= CODES)
+        add_step(d, rule, first, second, grant, p, q);
+}
+
+/* Rule 1: each choice makes p act for q statically. */
+static void add_static_step(struct source *s, struct derivation *d, unsigned n)
+{
+    struct term p = random_term(s, n, between(s, 1, 5)), q = p;
+    struct term other = random_term(s, n, between(s, 1, 3));
+    unsigned steps = (unsigned)step_count(d);
+    if (steps > 0 && one_in(s, 2)) /* from the right term of a step, so that rule 3 has something to join */
+        p = q = right_of(d, below(s, steps));
+    switch (below(s, 5)) {
+    case 0:
+        p = one_code(STRONGEST);
+        break;
+    case 1:
+        q = one_code(WEAKEST);
+        break;
+    case 2:
+        p = joined(BOTH, &q, &other);
+        break;
+    case 3:
+        q = joined(EITHER, &other, &p);
+        break;
+    default:
+        break;
+    }
+    add_good_step(d, 1, 0, 0, 0, &p, &q);
+}
+
+static void add_granted_step(struct source *s, struct derivation *d, const struct ledger *ledger)
+{
+    unsigned grants = (unsigned)grant_count(ledger);
+    if (grants == 0)
+        return;
+    unsigned grant = below(s, grants);
+    struct term p = term_of_grant(ledger, grant, 0), q = term_of_grant(ledger, grant, 1);
+    add_good_step(d, 2, 0, 0, grant, &p, &q);
+}
+
+static bool same(const struct term *a, const struct term *b)
+{
+    return a->length == b->length && memcmp(a->codes, b->codes, a->length) == 0;
+}
+
+typedef struct term end_of(const struct derivation *, size_t);
+
+/* From a random step on, the first whose end (its left or its right term) is `wanted`; else the count. Now and
+ * then a step that is not the right one. */
+static unsigned step_with(struct source *s, const struct derivation *d, end_of *end, const struct term *wanted)
+{
+    unsigned steps = (unsigned)step_count(d), start = below(s, steps);
+    if (one_in(s, 128))
+        return start;
+    for (unsigned i = 0; i < steps; i++) {
+        struct term candidate = end(d, (start + i) % steps);
+        if (same(&candidate, wanted))
+            return (start + i) % steps;
+    }
+    return steps;
+}
+
+static void add_transitive_step(struct source *s, struct derivation *d)
+{
+    unsigned steps = (unsigned)step_count(d), first = below(s, steps), second;
+    struct term p = left_of(d, first), middle = right_of(d, first), q;
+    second = step_with(s, d, left_of, &middle);
+    if (second == steps)
+        return;
+    q = right_of(d, second);
+    add_good_step(d, 3, first, second, 0, &p, &q);
+}
+
+static void add_conjunction_step(struct source *s, struct derivation *d)
+{
+    unsigned first = below(s, (unsigned)step_count(d)), second;
+    struct term p = left_of(d, first), a = right_of(d, first), b, q;
+    second = step_with(s, d, left_of, &p);
+    p = left_of(d, one_in(s, 2) ? first : second); /* the same, unless the second is not the right one */
+    b = right_of(d, second);
+    q = joined(BOTH, &a, &b);
+    add_good_step(d, 4, first, second, 0, &p, &q);
+}
+
+static void add_disjunction_step(struct source *s, struct derivation *d)
+{
+    unsigned first = below(s, (unsigned)step_count(d)), second;
+    struct term q = right_of(d, first), a = left_of(d, first), b, p;
+    second = step_with(s, d, right_of, &q);
+    q = right_of(d, one_in(s, 2) ? first : second);
+    b = left_of(d, second);
+    p = joined(EITHER, &a, &b);
+    add_good_step(d, 5, first, second, 0, &p, &q);
+}
+
+static void add_projection_step(struct source *s, struct derivation *d, unsigned side)
+{
+    unsigned first = below(s, (unsigned)step_count(d));
+    struct term a = left_of(d, first), b = right_of(d, first);
+    struct term p = prefixed(SEE_OF + side, &a), q = prefixed(SEE_OF + side, &b);
+    add_good_step(d, 6 + side, first, 0, 0, &p, &q);
+}
+
+/* One more step by a random rule, or none where that doesn't go. */
+static void add_random_step(struct source *s, struct derivation *d, const struct ledger *ledger, unsigned n)
+{
+    unsigned rule = between(s, 1, 9);
+    if (rule == 2 || rule == 8)
+        add_granted_step(s, d, ledger);
+    else if (rule == 1 || rule == 9 || step_count(d) == 0)
+        add_static_step(s, d, n);
+    else if (rule == 3)
+        add_transitive_step(s, d);
+    else if (rule == 4)
+        add_conjunction_step(s, d);
+    else if (rule == 5)
+        add_disjunction_step(s, d);
+    else
+        add_projection_step(s, d, rule - 6);
+}
+
+static void random_derivation(struct source *s, struct call *call, unsigned n)
+{
+    struct derivation *d = &call->derivation;
+    unsigned draw = below(s, 16);
+    unsigned wanted = draw == 0 ? STEPS : draw < 4 ? between(s, 5, 20) : between(s, 1, 6);
+    d->length = 0;
+    while (step_count(d) < wanted)
+        add_random_step(s, d, &call->ledger, n);
+}
+
+/* ---- Damaged derivations ---- */
+
+static size_t bad_derivation_length(struct source *s, size_t length)
+{
+    static const uint16_t lengths[] = {0, 1, 135, 137, 8703, 8705, 8840, 8976};
+    unsigned draw = below(s, 12);
+    if (draw < 8)
+        return lengths[draw];
+    return draw < 10 || length == 0 ? length + 1 : length - 1;
+}
+
+static void set_derivation_length(struct derivation *d, size_t length)
+{
+    if (length > d->length)
+        memset(d->bytes + d->length, 0, length - d->length);
+    d->length = length;
+}
+
+/* A byte that a good step has 00 in: 6, 7, or past p or q; where a term is full, byte 6. */
+static unsigned step_filler_place(struct source *s, const uint8_t *step)
+{
+    unsigned which = below(s, 2), used = step[4 + which];
+    if (one_in(s, 3) || used >= CODES)
+        return between(s, 6, 7);
+    return 8 + 64 * which + (one_in(s, 2) ? used : 63);
+}
+
+static void damage_term_of_step(struct source *s, uint8_t *step, unsigned n)
+{
+    unsigned which = below(s, 2);
+    damage_field(s, step + 8 + 64 * which, &step[4 + which], n);
+}
+
+/* A length over 64, with any bytes in the field. */
+static void overlong_term_of_step(struct source *s, uint8_t *step)
+{
+    unsigned which = below(s, 2);
+    step[4 + which] = (uint8_t)(one_in(s, 2) ? 65 : between(s, 66, 255));
+    for (unsigned i = 0; i < CODES; i++)
+        step[8 + 64 * which + i] = any_byte(s);
+}
+
+/* Another good term of the same length, so that the step is formed but may not meet its rule. */
+static void change_term_of_step(struct source *s, uint8_t *step, unsigned n)
+{
+    unsigned which = below(s, 2);
+    size_t length = at_most_codes(step[4 + which]);
+    struct term term = random_term(s, n, length > 0 ? (unsigned)length : 1);
+    memcpy(step + 8 + 64 * which, term.codes, length);
+}
+
+static void damage_step(struct source *s, uint8_t *step, unsigned number, unsigned n)
+{
+    unsigned place;
+    switch (below(s, 12)) {
+    case 0:
+        step[0] = (uint8_t)(one_in(s, 8) ? any_byte(s) : edge_or_between(s, 0, 8));
+        break;
+    case 1: /* a premise that is this step or a later one, or one that no rule uses here */
+        place = between(s, 1, 2);
+        step[place] = one_in(s, 2) ? (uint8_t)number : any_byte(s);
+        break;
+    case 2: /* another premise */
+        place = between(s, 1, 2);
+        step[place] = (uint8_t)below(s, number + 1);
+        break;
+    case 3: /* another grant */
+        step[3] = one_in(s, 2) ? (uint8_t)below(s, 6) : any_byte(s);
+        break;
+    case 4:
+        place = step_filler_place(s, step);
+        step[place] = nonzero_byte(s);
+        break;
+    case 5:
+        overlong_term_of_step(s, step);
+        break;
+    case 6:
+    case 7:
+        damage_term_of_step(s, step, n);
+        break;
+    case 8:
+    case 9: /* 30 for 31, 40 for 41, another name */
+        place = 8 + 64 * below(s, 2);
+        step[place] ^= 1;
+        break;
+    default:
+        change_term_of_step(s, step, n);
+    }
+}
+
+static void damage_derivation(struct source *s, struct derivation *d, unsigned n)
+{
+    unsigned steps = (unsigned)step_count(d), step;
+    if (steps == 0 || one_in(s, 8)) {
+        set_derivation_length(d, bad_derivation_length(s, d->length));
+        return;
+    }
+    step = below(s, steps);
+    if (one_in(s, 16)) { /* a grant that the ledger doesn't have */
+        step_of(d, step)[0] = 2;
+        step_of(d, step)[1] = 0;
+        step_of(d, step)[2] = 0;
+        step_of(d, step)[3] = (uint8_t)between(s, 0, 80);
+    } else {
+        damage_step(s, step_of(d, step), step, n);
+    }
+}
+
+static void maybe_damage_derivation(struct source *s, struct derivation *d, unsigned n)
+{
+    if (!one_in(s, 2))
+        return;
+    damage_derivation(s, d, n);
+    if (one_in(s, 8))
+        damage_derivation(s, d, n);
+}
+
+/* The step to quote: mostly one by rule 2, now and then past the end. */
+static uint64_t random_quoted_step(struct source *s, const struct derivation *d)
+{
+    unsigned steps = (unsigned)step_count(d), start, draw = below(s, 8);
+    if (steps == 0)
+        return draw;
+    start = below(s, steps);
+    if (draw == 0)
+        return steps;
+    if (draw == 1) /* good only if its low half is looked at alone */
+        return ((uint64_t)1 << (one_in(s, 2) ? 32 : 63)) + start;
+    for (unsigned i = 0; i < steps && draw > 2; i++)
+        if (d->bytes[STEP * ((start + i) % steps)] == 2)
+            return (start + i) % steps;
+    return start;
+}
+
+/* ---- Calls ---- */
+
+static void random_short_form(struct source *s, struct call *call)
+{
+    static const uint64_t bad_names[] = {0, 13, 255, 258, 65538, 0x100000002, 0x8000000000000001, UINT64_MAX};
+    static const uint16_t bad_lengths[] = {0, 1, 4, 1024, 8194, 16384, 16387};
+    unsigned n = random_names(s);
+    call->number = n;
+    call->p = one_in(s, 3) ? many_ways(s, n) : random_term(s, n, random_size(s));
+    call->buffer_length = one_in(s, 2) ? 16388 : between(s, 16389, BUFFER_ROOM);
+    if (one_in(s, 12))
+        call->number = bad_names[below(s, sizeof bad_names / sizeof *bad_names)];
+    if (one_in(s, 12))
+        call->buffer_length = bad_lengths[below(s, sizeof bad_lengths / sizeof *bad_lengths)];
+    if (one_in(s, 3))
+        damage_term(s, &call->p, n);
+}
+
+static void random_extract(struct source *s, struct call *call)
+{
+    static const uint16_t bad_lengths[] = {0, 1, 512, 1023, 1025, 2048, 16388};
+    call->buffer_length = 1024;
+    if (one_in(s, 16))
+        call->buffer_length = bad_lengths[below(s, sizeof bad_lengths / sizeof *bad_lengths)];
+}
+
+void random_call(struct source *s, enum operation operation, struct call *call)
+{
+    unsigned n = random_names(s);
+    call->operation = operation;
+    call->p.length = call->q.length = call->label.length = call->ledger.length = call->derivation.length = 0;
+    call->buffer_length = 0;
+    call->number = 0;
+    call->fill = any_byte(s);
+    if (operation == SHORT_FORM) {
+        random_short_form(s, call);
+        return;
+    }
+    random_ledger(s, &call->ledger, n);
+    call->label = random_label(s, &call->ledger, n);
+    maybe_damage_term(s, &call->label, n);
+    if (operation == ACTS_FOR || operation == FLOWS_TO) {
+        random_question(s, call, n);
+        maybe_damage_term(s, &call->p, n);
+        maybe_damage_term(s, &call->q, n);
+    } else if (operation == EXTRACT) {
+        random_extract(s, call);
+    } else {
+        random_derivation(s, call, n);
+        maybe_damage_derivation(s, &call->derivation, n);
+    }
+    if (operation == QUOTE)
+        call->number = random_quoted_step(s, &call->derivation);
+    maybe_damage_ledger(s, &call->ledger, n);
+}

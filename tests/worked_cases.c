@@ -1,0 +1,189 @@
+/*
+ * The worked cases A to L of document 01, on the reference and on the library.
+ */
+#include "calls.h"
+
+#include <stdbool.h>
+#include <stdio.h>
+#include <string.h>
+
+static unsigned failures;
+
+static void expect(const struct engine *engine, const char *letter, bool as_written)
+{
+    if (as_written)
+        return;
+    printf("case %s of document 01 differs (%s)\n", letter, engine->name);
+    failures++;
+}
+
+/* A term from codes written in hexadecimal, with spaces. */
+static struct term codes(const char *hex)
+{
+    struct term term = {0};
+    unsigned code;
+    int used;
+    for (; sscanf(hex, "%x%n", &code, &used) == 1; hex += used)
+        put_code(&term, code);
+    return term;
+}
+
+static struct ledger plain(void)
+{
+    struct ledger ledger;
+    start_ledger(&ledger, 2);
+    return ledger;
+}
+
+static struct ledger granted(const char *label)
+{
+    struct ledger ledger = plain();
+    struct term p = codes("00"), q = codes("01"), d = codes(label);
+    add_grant(&ledger, &p, &q, &d);
+    return ledger;
+}
+
+static uint32_t ask(question_call *question, const struct ledger *ledger, const char *p, const char *q,
+                    const char *label)
+{
+    struct term tp = codes(p), tq = codes(q), tl = codes(label);
+    return question(ledger->bytes, ledger->length, tp.codes, tp.length, tq.codes, tq.length, tl.codes, tl.length);
+}
+
+enum { YES = 0, NO = 65536, SIDE = 4096, REFUSED = 131072 };
+
+static uint32_t no_on_see_side(unsigned coalition)
+{
+    return NO + 0 * SIDE + coalition;
+}
+
+static bool check_is(const struct ledger *ledger, unsigned block, uint8_t high, uint8_t low)
+{
+    return ledger->bytes[BLOCK * block + 510] == high && ledger->bytes[BLOCK * block + 511] == low;
+}
+
+static void checks_of_the_ledgers(const struct engine *e)
+{
+    struct ledger l = granted("41 01"), g = granted("41 00"), p = plain();
+    expect(e, "Plain", check_is(&p, 0, 0x00, 0x05));
+    expect(e, "Granted", check_is(&l, 0, 0x00, 0x09) && check_is(&l, 1, 0x25, 0xC3));
+    expect(e, "G", check_is(&g, 1, 0x25, 0x31));
+}
+
+static void cases_of_acts_for(const struct engine *e)
+{
+    struct ledger p = plain(), l = granted("41 01"), g = granted("41 00");
+    expect(e, "A", ask(e->acts_for, &p, "21", "31 40 00 41 01", "21") == YES);
+    expect(e, "A", ask(e->acts_for, &p, "31 40 00 41 01", "21", "21") == YES);
+    expect(e, "B", ask(e->acts_for, &p, "30 00 01", "00", "21") == YES);
+    expect(e, "C", ask(e->acts_for, &p, "31 00 01", "00", "21") == no_on_see_side(2));
+    expect(e, "D", ask(e->acts_for, &p, "20", "00", "21") == YES);
+    expect(e, "D", ask(e->acts_for, &p, "21", "20", "21") == no_on_see_side(0));
+    expect(e, "E", ask(e->acts_for, &l, "00", "01", "41 01") == YES);
+    expect(e, "F", ask(e->acts_for, &l, "00", "01", "00") == no_on_see_side(1));
+    expect(e, "G", ask(e->acts_for, &g, "00", "01", "21") == no_on_see_side(1));
+}
+
+static void cases_of_flows_to(const struct engine *e)
+{
+    struct ledger p = plain();
+    expect(e, "I", ask(e->flows_to, &p, "40 00", "40 30 00 01", "21") == YES);
+    expect(e, "J", ask(e->flows_to, &p, "40 30 00 01", "40 00", "21") == no_on_see_side(1));
+}
+
+/* Bytes 0 and 512 have this value, the rest is 00. */
+static bool extract_is(const struct engine *e, const struct ledger *ledger, uint8_t value)
+{
+    uint8_t buffer[1024], expected[1024] = {0};
+    struct term label = codes("41 01");
+    memset(buffer, 0xAA, sizeof buffer);
+    expected[0] = expected[512] = value;
+    return e->extract(ledger->bytes, ledger->length, label.codes, label.length, buffer, sizeof buffer) == YES
+        && memcmp(buffer, expected, sizeof buffer) == 0;
+}
+
+static void case_of_extract(const struct engine *e)
+{
+    struct ledger l = granted("41 01"), p = plain();
+    expect(e, "H", extract_is(e, &l, 0x0D));
+    expect(e, "H", extract_is(e, &p, 0x0F));
+}
+
+/* The short form is the expected bytes, and the bytes after them are kept. */
+static bool short_form_is(const struct engine *e, const char *term, const char *expected)
+{
+    static uint8_t buffer[16388], after[16388];
+    struct term t = codes(term), bytes = codes(expected);
+    memset(buffer, 0xAA, sizeof buffer);
+    memset(after, 0xAA, sizeof after);
+    memcpy(after, bytes.codes, bytes.length);
+    return e->short_form(2, t.codes, t.length, buffer, sizeof buffer) == bytes.length
+        && memcmp(buffer, after, sizeof buffer) == 0;
+}
+
+static void cases_of_short_form(const struct engine *e)
+{
+    expect(e, "A", short_form_is(e, "31 40 00 41 01", "00 01 00 00 00 01 00 00"));
+    expect(e, "K", short_form_is(e, "31 00 30 00 01", "00 01 00 01 00 01 00 01"));
+    expect(e, "K", short_form_is(e, "20", "00 00 00 00"));
+}
+
+/* The refusal of a term in a job of two names; 0 if it passes. */
+static uint32_t refusal_of_term(const struct engine *e, const struct term *t)
+{
+    static uint8_t buffer[16388];
+    uint32_t number = e->short_form(2, t->codes, t->length, buffer, sizeof buffer);
+    return number < REFUSED ? 0 : number - REFUSED;
+}
+
+static struct term nested(unsigned projections)
+{
+    struct term term = {0};
+    for (unsigned i = 0; i < projections; i++)
+        put_code(&term, SEE_OF);
+    put_code(&term, 0);
+    return term;
+}
+
+static uint32_t asked_of_length(const struct engine *e, size_t length)
+{
+    struct ledger ledger = {0};
+    start_ledger(&ledger, 2);
+    ledger.length = length;
+    return ask(e->acts_for, &ledger, "00", "00", "21");
+}
+
+static void case_of_refusals(const struct engine *e)
+{
+    struct term longest = nested(63), longer = nested(64);
+    struct term unknown = codes("02"), early = codes("30 00"), left_over = codes("00 00"), unjudged = codes("00 FF");
+    expect(e, "L", refusal_of_term(e, &longest) == 0);
+    expect(e, "L", refusal_of_term(e, &longer) == 1);
+    expect(e, "L", refusal_of_term(e, &unknown) == 2);
+    expect(e, "L", refusal_of_term(e, &early) == 3);
+    expect(e, "L", refusal_of_term(e, &left_over) == 4);
+    expect(e, "L", refusal_of_term(e, &unjudged) == 4);
+    expect(e, "L", asked_of_length(e, 0) == REFUSED + 10);
+    expect(e, "L", asked_of_length(e, 513) == REFUSED + 10);
+    expect(e, "L", asked_of_length(e, 33792) == REFUSED + 10);
+}
+
+static void all_cases(const struct engine *e)
+{
+    checks_of_the_ledgers(e);
+    cases_of_acts_for(e);
+    cases_of_flows_to(e);
+    case_of_extract(e);
+    cases_of_short_form(e);
+    case_of_refusals(e);
+}
+
+int main(void)
+{
+    all_cases(&reference_engine);
+    all_cases(&library_engine);
+    if (failures)
+        return 1;
+    puts("worked cases A to L: same, by the reference and by the library");
+    return 0;
+}

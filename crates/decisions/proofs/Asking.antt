@@ -3,8 +3,8 @@ use mathlib.Core.Path.{_≡_, sym, ap, _∙_}
 use mathlib.Core.List.{List}
 use Prim.Native.Nat.{ℕ, _+_, _≤_}
 use native.Mathlib.Omega.{arith}
-use Rattle.model.specs.Bytes.{accepted, refused, from}
-use Rattle.model.specs.Answers.{Answer, Refused, given}
+use Rattle.model.specs.Bytes.{accepted, refused}
+use Rattle.model.specs.Answers.{Answer, Refused}
 use Rattle.model.specs.Terms.{Term, readTerm}
 use Rattle.model.specs.Ledgers.{Ledger, readLedger}
 use Rattle.model.specs.Questions.{ask}

@@ -2,22 +2,22 @@
 use mathlib.Core.Path.{_≡_, refl, sym, ap, ap₂, _∙_}
 use mathlib.Core.Bool.{Bool, true, false, not, _&&_, _||_, true≢false}
 use mathlib.Core.List.{List}
-use Prim.Native.Nat.{ℕ, zero, suc, _+_, _-_, _*_, _/_, _%_, _^_, _≤_, _<_}
+use Prim.Native.Nat.{ℕ, suc, _+_, _-_, _*_, _/_, _%_, _≤_, _<_}
 use native.Mathlib.Numerals.{add-one}
 use native.Mathlib.Omega.{arith}
 use lib.Bits.{bitAnd, bitOr, or-add-and, and-le-l, and-le-r}
-use lib.ListN.{length, take}
+use lib.ListN.{take}
 use lib.Seq.{take-all}
 use Rattle.model.specs.Answers.{Side, confidentiality, integrity}
 use Rattle.model.specs.Terms.{Term, held}
 use Rattle.model.specs.Grants.{Grant, Marks, implies, counts, counting, sound}
 use Rattle.model.specs.Ledgers.{Ledger}
 use Rattle.model.specs.Questions.{soundUnder}
-use Rattle.model.specs.Extracts.{bit, mark, packed}
+use Rattle.model.specs.Extracts.{bit, packed}
 use Rattle.model.specs.Derivations.{ofGrant}
-use Rattle.model.proofs.Truth.{clash, false-of, and-left, and-right, and-intro}
+use Rattle.model.proofs.Truth.{clash, false-of}
 use Rattle.model.proofs.Prefixes.{ofGrant-getD, keeps, sound-none, sound-more, sound-first}
-use Rattle.words.specs.Evaluation.{coalitionWord, HeldAt}
+use Rattle.words.specs.Evaluation.{HeldAt}
 use Rattle.words.proofs.Packing.{packed-cong, packed-and, packed-or, packed-not, packed-zero, packed-half, packed-odd}
 use Rattle.decisions.specs.Promises.{LedgerOf, countingMarks, WordsOf, keeping, soundOf}
 use Rattle.decisions.proofs.Marks.{noGrant, grantAt, grants-few}

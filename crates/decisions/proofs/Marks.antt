@@ -1,22 +1,21 @@
 -- The marks of the grants that count, a bit for each, and where grant k stands in the ledger. Assumes nothing.
-use mathlib.Core.Path.{_≡_, refl, sym, ap, ap₂, _∙_}
+use mathlib.Core.Path.{_≡_, refl, sym, ap₂, _∙_}
 use mathlib.Core.Bool.{Bool, true, false}
 use mathlib.Core.List.{List}
-use Prim.Native.Nat.{ℕ, suc, _+_, _-_, _*_, _%_, _^_, _≤_, _<_}
+use Prim.Native.Nat.{ℕ, suc, _-_, _*_, _%_, _^_, _≤_, _<_}
 use native.Mathlib.Nat.{mod-eq-of-lt}
 use native.Mathlib.Omega.{arith}
 use mir.Val.{boolByte}
 use lib.Bits.{bitOr, or-shifted}
 use lib.ListN.{length, getD}
 use lib.Pow.{pow-mono}
-use Rattle.model.specs.Bytes.{accepted}
-use Rattle.model.specs.Terms.{Term, top, readTerm}
-use Rattle.model.specs.Grants.{Grant, counts}
-use Rattle.model.specs.Ledgers.{Ledger, pBytes, qBytes, labelBytes}
+use Rattle.model.specs.Terms.{Term, top}
+use Rattle.model.specs.Grants.{Grant}
+use Rattle.model.specs.Ledgers.{Ledger, qBytes, labelBytes}
 use Rattle.model.specs.Extracts.{bit, packed}
 use Rattle.model.specs.Derivations.{ofGrant, grantBlock}
 use Rattle.model.proofs.Packed.{packed-lt}
-use Rattle.model.proofs.Prefixes.{ofGrant-getD, ofGrant-past}
+use Rattle.model.proofs.Prefixes.{ofGrant-past}
 use Rattle.model.proofs.Stands.{GrantStands, LedgerStands, ledger-stands}
 use Rattle.words.specs.Evaluation.{wordsOf}
 use Rattle.words.proofs.Packing.{bit-lt, packed-zero}

@@ -1,7 +1,6 @@
 -- Words of the coalitions that refute an answer, and the lowest of them. Assumes nothing.
 use mathlib.Core.Path.{_≡_, refl, sym, ap, _∙_}
 use mathlib.Core.Bool.{Bool, true, false, not, _&&_}
-use mathlib.Core.List.{List}
 use Prim.Native.Nat.{ℕ, _+_, _-_, _*_, _^_, _≤_, _<_}
 use native.Mathlib.Nat.{zero-add}
 use native.Mathlib.Omega.{arith}
@@ -10,14 +9,14 @@ use lib.Bits.{bitAnd}
 use lib.Dec.{ltb}
 use Rattle.model.specs.Answers as model
 use Rattle.model.specs.Answers.{Side, confidentiality, integrity}
-use Rattle.model.specs.Terms.{Term, member}
+use Rattle.model.specs.Terms.{Term, member, held}
 use Rattle.model.specs.Grants.{Marks}
 use Rattle.model.specs.Ledgers.{Ledger}
-use Rattle.model.specs.Questions.{Lowest, nowhere, at, lowest, refutes, ground, judge, soundUnder, actsForUnder, flowsToUnder}
+use Rattle.model.specs.Questions.{Lowest, nowhere, at, lowest, refutes, ground, judge, across, soundUnder, actsForUnder, flowsToUnder}
 use Rattle.model.specs.Extracts.{mark, packed}
 use Rattle.model.proofs.Bars.{lacks}
 use Rattle.model.proofs.Packed.{bits-ext, member-packed, packed-lt}
-use Rattle.words.specs.Evaluation.{coalitionWord, wordsOf, LowestBit}
+use Rattle.words.specs.Evaluation.{coalitionWord, wordsOf, HeldAt, LowestBit}
 use Rattle.words.proofs.Packing.{packed-cong, packed-and, packed-none}
 use Rattle.words.proofs.Searches.{lowest-found, lowest-none}
 use Rattle.decisions.specs.declared.Question.{Question}
@@ -27,9 +26,25 @@ use Rattle.decisions.specs.Answers.{questionOf, fromOf, toOf, opposedOf,
 use Rattle.decisions.proofs.Tests.{packed-lacks, clear-more}
 
 -- of the coalitions of n names, those of f and not of g
-pub opposed-word : (n : ℕ) (f g : ℕ → Bool) (w mask a b : ℕ) → mask ≡ coalitionWord n w → a ≡ packed f (64 * w) 64 → b ≡ packed g (64 * w) 64
+opposed-word : (n : ℕ) (f g : ℕ → Bool) (w mask a b : ℕ) → mask ≡ coalitionWord n w → a ≡ packed f (64 * w) 64 → b ≡ packed g (64 * w) 64
     → bitAnd mask (bitAnd a (0xFFFF_FFFF_FFFF_FFFF - b)) ≡ packed (λ c. ltb c (2 ^ n) && (f c && not (g c))) (64 * w) 64
 opposed-word n f g w mask a b m e h = rw (m, e, h) (rw (packed-lacks f g (64 * w)) (packed-and (λ c. ltb c (2 ^ n)) (lacks f g) (64 * w) 64))
+
+-- the words of those that refute if they are sound, from the words of p and q
+module _ (n : ℕ) (p q : Term) (w mask ps pc pn qs qc qn : ℕ) (m : mask ≡ coalitionWord n w) (a : HeldAt p 0 w ps pc pn) (b : HeldAt q 0 w qs qc qn) where
+  pub acts-words : WordsOf (opposedOf ActsFor n p q) w (bitAnd mask (bitAnd ps (0xFFFF_FFFF_FFFF_FFFF - qs))) (bitAnd mask (bitAnd pc (0xFFFF_FFFF_FFFF_FFFF - qc)))
+  acts-words = record {
+    see-word = opposed-word n (held p confidentiality) (held q confidentiality) w mask ps qs m (a .see-word) (b .see-word);
+    change-word = opposed-word n (held p integrity) (held q integrity) w mask pc qc m (a .change-word) (b .change-word);
+  }
+
+  -- on the see side the other way round
+  pub flows-words : WordsOf (opposedOf FlowsTo n p q) w (bitAnd mask (bitAnd qs (0xFFFF_FFFF_FFFF_FFFF - ps))) (bitAnd mask (bitAnd pc (0xFFFF_FFFF_FFFF_FFFF - qc)))
+  unfolding across
+  flows-words = record {
+    see-word = opposed-word n (held q confidentiality) (held p confidentiality) w mask qs ps m (b .see-word) (a .see-word);
+    change-word = acts-words .change-word;
+  }
 
 -- a word is the marks that its bits are
 word-bits : (x : ℕ) → x < 2 ^ 64 → x ≡ packed (λ j. member j x) 0 64

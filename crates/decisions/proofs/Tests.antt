@@ -1,8 +1,8 @@
 -- Tests of all coalitions of n names, word by word: nothing is marked in any word, or the first word that is not 0 refutes. Assumes nothing.
-use mathlib.Core.Path.{_≡_, refl, sym, ap, ap₂, _∙_}
+use mathlib.Core.Path.{_≡_, sym, ap, _∙_}
 use mathlib.Core.Bool.{Bool, true, false, not, _&&_, _||_}
 use mathlib.Core.List.{List}
-use Prim.Native.Nat.{ℕ, _+_, _-_, _*_, _^_, _≤_, _<_}
+use Prim.Native.Nat.{ℕ, _+_, _-_, _*_, _^_, _≤_}
 use native.Mathlib.Omega.{arith}
 use lib.Bits.{bitAnd, bitOr}
 use lib.Dec.{ltb}
@@ -10,13 +10,13 @@ use borrow.Author.Tests.{lt-ltb, ltb-true}
 use Rattle.model.specs.Answers.{confidentiality, integrity}
 use Rattle.model.specs.Bytes.{accepted}
 use Rattle.model.specs.Terms.{Term, readTerm, held}
-use Rattle.model.specs.Grants.{Grant, every, actsStatically, voice, counts}
+use Rattle.model.specs.Grants.{Grant, every, voice}
 use Rattle.model.specs.Extracts.{mark, packed}
 use Rattle.model.proofs.Truth.{clash, and-left, and-right, false-of}
 use Rattle.model.proofs.Search.{every-elim, every-intro}
 use Rattle.model.proofs.Reading.{accepted-codes}
-use Rattle.model.proofs.Bars.{lacks, barsCounting, barsActing, counts-bars, static-bars}
-use Rattle.words.specs.Evaluation.{heldWord, coalitionWord, wordsOf, HeldAt, EvaluatedWhole, LowestMark}
+use Rattle.model.proofs.Bars.{lacks, barsCounting, barsActing}
+use Rattle.words.specs.Evaluation.{heldWord, coalitionWord, wordsOf, HeldAt, EvaluatedWhole}
 use Rattle.words.proofs.Packing.{packed-and, packed-or, packed-not, packed-zero, packed-lowest}
 use Rattle.words.proofs.Names.{words-enough}
 use Rattle.words.proofs.Searches.{packed-mark, none-more}

@@ -19,10 +19,12 @@ use Rattle.decisions.specs.declared.Answer.the-variants.{Yes, No, Refuse
 use Rattle.decisions.specs.declared.Question.{Question}
 use Rattle.decisions.specs.declared.Question.the-variants.{ActsFor, FlowsTo}
 
+-- the see side is confidentiality, the change side integrity
 abbrev pub sideOf : Side → model.Side
 sideOf See = model.confidentiality
 sideOf Change = model.integrity
 
+-- yes; no, with the side and the coalition that refutes; or the refusal's number
 abbrev pub answerOf : Answer → model.Answer
 answerOf Yes = model.Yes
 answerOf (No s c) = model.No (sideOf s) c

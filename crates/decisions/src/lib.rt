@@ -65,7 +65,7 @@ fn grant_counts(see: &[u64; 64], change: &[u64; 64], n: u64, q: &[u8], d: &[u8])
     true
 }
 
-// Bit k is set exactly if grant k counts under the label.
+// Bit k is set exactly if grant k counts under the label. No ledger has more grants than 64.
 pub fn counting(ledger: &[u8], n: u64, grants: usize, label: &[u8]) -> u64
     ensures { λ r. ⌜ ((l : Ledger) (L : Term) → LedgerOf (now (ledger .entry)) n grants l → readTerm n (now (label .entry)) ≡ accepted L → r ≡ countingMarks n L l) ⌝ }
 {

@@ -1,6 +1,6 @@
 -- `decisions::acts_statically` meets its contract. The loop's invariant: no coalition of the words before w holds p and not q on a side.
 -- Assumes nothing.
-use Prim.Native.Nat.{ℕ, _*_, _-_, _≤_}
+use Prim.Native.Nat.{_*_, _-_, _≤_}
 use native.Mathlib.Omega.{arith}
 use mathlib.Core.Path.{_≡_, sym, _∙_, subst}
 use Rattle.model.specs.Bytes.{accepted}

@@ -1,9 +1,8 @@
 -- `decisions::ask` meets its contract: the refusals in their order, and the answer where nothing is refused. Assumes nothing.
 use native.Mathlib.Omega.{arith}
-use mathlib.Core.Path.{_≡_, sym, _∙_}
+use mathlib.Core.Path.{sym, _∙_}
 use Rattle.terms.proofs.Accepted.{AcceptedTerm, accepted-term}
 use Rattle.ledgers.proofs.Accepted.{AcceptedLedger, accepted-ledger}
-use Rattle.decisions.specs.Answers.{questionOf}
 use Rattle.decisions.proofs.Asking.{ledger-of, ledger-refused, term-refused, refusal-small, ask-ledger, ask-p, ask-q, ask-label, ask-answer}
 use borrow.Author.Needs.{needs}
 use Rattle.decisions.proofs.ask.Statement.{statement}

@@ -1,11 +1,11 @@
 -- `decisions::counting` meets its contract. The loop's invariant: the marks of the grants from k on. Assumes nothing.
-use Prim.Native.Nat.{ℕ, _-_, _≤_}
+use Prim.Native.Nat.{_-_, _≤_}
 use native.Mathlib.Omega.{arith}
 use mathlib.Core.Path.{_≡_, refl, sym, _∙_}
 use borrow.Author.Needs.{needs}
 use Rattle.model.specs.Bytes.{accepted}
 use Rattle.model.specs.Terms.{Term, readTerm}
-use Rattle.model.specs.Grants.{Grant, counts}
+use Rattle.model.specs.Grants.{counts}
 use Rattle.model.specs.Ledgers.{Ledger}
 use Rattle.model.specs.Extracts.{packed}
 use Rattle.model.specs.Derivations.{ofGrant}

@@ -2,7 +2,6 @@
 use Prim.Native.Nat.{ℕ, _-_, _≤_}
 use native.Mathlib.Omega.{arith}
 use mathlib.Core.Path.{_≡_, subst}
-use borrow.Author.Needs.{needs}
 use lib.ListN.{length, length-set}
 use Rattle.model.specs.Bytes.{accepted}
 use Rattle.model.specs.Terms.{Term, readTerm}

@@ -1,5 +1,5 @@
 -- `decisions::grant_counts` meets its contract. The loop's invariant: no coalition of the words before w bars the grant. Assumes nothing.
-use Prim.Native.Nat.{ℕ, _*_, _-_, _≤_, _<_}
+use Prim.Native.Nat.{_*_, _-_, _≤_, _<_}
 use native.Mathlib.Omega.{arith}
 use mathlib.Core.Path.{_≡_, sym, _∙_, subst}
 use lib.ListN.{getD}

@@ -1,10 +1,9 @@
 -- `decisions::judge` meets its contract. The loop's invariant: nothing refutes in the words before w, on either side. Assumes nothing.
-use Prim.Native.Nat.{ℕ, _*_, _-_, _≤_}
+use Prim.Native.Nat.{_-_, _≤_}
 use native.Mathlib.Omega.{arith}
 use mathlib.Core.Path.{_≡_}
 use Rattle.model.specs.Answers.{Side, confidentiality, integrity}
 use Rattle.model.specs.Terms.{Term}
-use Rattle.model.specs.Grants.{Marks}
 use Rattle.model.specs.Ledgers.{Ledger}
 use Rattle.model.specs.Extracts.{mark}
 use Rattle.words.specs.Evaluation.{wordsOf}

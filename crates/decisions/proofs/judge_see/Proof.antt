@@ -1,8 +1,8 @@
 -- `decisions::judge_see` meets its contract. The loop's invariant: nothing refutes on the see side in the words before w. Assumes nothing.
-use Prim.Native.Nat.{ℕ, _*_, _-_, _≤_}
+use Prim.Native.Nat.{_*_, _-_}
 use native.Mathlib.Omega.{arith}
-use mathlib.Core.Path.{_≡_, sym, ap, _∙_}
-use Rattle.model.specs.Answers.{Answer, confidentiality}
+use mathlib.Core.Path.{_≡_, sym, ap}
+use Rattle.model.specs.Answers.{confidentiality}
 use Rattle.model.specs.Terms.{Term}
 use Rattle.model.specs.Ledgers.{Ledger}
 use Rattle.model.specs.Questions.{Lowest}

@@ -6,6 +6,7 @@
 # make fuzz          a fuzzer for a while: make fuzz SECONDS=60
 # make stack-use     how much stack a call takes
 # make cases-data    the data file of the test program `cases`, made again
+# make reading-lines how many lines of definitions and statements there are to believe
 
 CC = gcc
 CXX = g++
@@ -107,8 +108,12 @@ check-cases-data: build/make_cases
 	build/make_cases build/cases-data >build/cases-data.txt
 	cmp build/cases-data $(CASES_DATA)
 
+reading-lines:
+	@for crate in model demands; do \
+		echo "crates/$$crate/specs: $$(cat crates/$$crate/specs/*.antt | grep -cvE '^(use |pub mod |$$)')"; done
+
 clean:
 	rm -rf build
 
 .PHONY: library c-tools fuzz-tools demo test check-c check-pkg-config stack-use bench fuzz cases-data \
-	check-cases-data clean
+	check-cases-data reading-lines clean

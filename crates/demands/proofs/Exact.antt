@@ -9,7 +9,6 @@ use Rattle.model.specs.Terms.{Term, conj, project, NamesBelow, held}
 use Rattle.model.specs.Grants.{Grant, within, actsStatically, visible, spoken, voice, counting, sound}
 use Rattle.model.specs.Ledgers.{Ledger}
 use Rattle.model.specs.Questions.{soundUnder, flowsToUnder, actsFor, flowsTo}
-use Rattle.model.specs.Meanings.{Holds}
 use Rattle.model.proofs.Truth.{and-intro, and-left, and-right}
 use Rattle.model.proofs.Search.{within-says}
 use Rattle.model.proofs.Judge.{flows-yes}

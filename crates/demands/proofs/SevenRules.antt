@@ -16,7 +16,7 @@ use Rattle.demands.specs.Rules.{Derives, rule1, rule2, rule3, rule4, rul
 use Rattle.model.proofs.Held.{project-held}
 use Rattle.demands.proofs.Soundness.{soundness}
 use Rattle.demands.proofs.Completeness.{completeness}
-use Rattle.demands.proofs.Exact.{static-carries, NamesFit, names-fit, yes-carries}
+use Rattle.demands.proofs.Exact.{static-carries, names-fit, yes-carries}
 
 module _ (n : ℕ) (G : List Grant) (t : Side) (c : ℕ) (l : c < 2 ^ n) (good : sound G t c ≡ true) where
   kept : {p q : Term} → Derives n G p q → held p t c ≡ true → held q t c ≡ true

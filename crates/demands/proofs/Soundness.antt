@@ -1,6 +1,6 @@
 -- What the algebra derives, the coalitions say.
 use mathlib.Core.Path.{_≡_, refl, sym, _∙_}
-use mathlib.Core.Bool.{Bool, true, _&&_, _||_, false≢true, and-or-distrib-left}
+use mathlib.Core.Bool.{true, _&&_, _||_, false≢true, and-or-distrib-left}
 use mathlib.Core.List.{List}
 use Prim.Native.Nat.{ℕ}
 use Rattle.model.specs.Answers.{Side, confidentiality, integrity}

@@ -2,12 +2,11 @@
 use mathlib.Core.Path.{_≡_, refl}
 use Prim.Native.Nat.{ℕ}
 use mathlib.Core.Bool.{true, or-true}
-use mathlib.Core.List.{List, [], _∷_}
-use lib.Dec.{eqb}
+use mathlib.Core.List.{[], _∷_}
 use lib.ListN.{length}
 use borrow.Author.Tests.{eq-eqb}
 use Rattle.model.specs.Bytes.{zeros, pieces, joined}
-use Rattle.model.specs.Answers.{Side, confidentiality, integrity, Yes, No}
+use Rattle.model.specs.Answers.{Side, confidentiality, integrity}
 use Rattle.model.specs.Terms.{name, bottom, disj, project, codes, codeOf, readWithin, readTerm, member, held}
 use Rattle.model.specs.Grants.{every, within, visible, voice, spoken, counts, counting, sound}
 use Rattle.model.specs.Ledgers.{weighted, checkOf, checked, grantBlocks, allChecked, headerForm, grantForm, readTerms, readGrant, readGrants, readLedger, withCheck, ledgerOf}

@@ -5,7 +5,7 @@ use mathlib.Core.Bool.{true}
 use mathlib.Core.List.{List, [], _∷_, _++_}
 use lib.ListN.{length, replicate}
 use Rattle.model.specs.Bytes.{accepted}
-use Rattle.model.specs.Answers.{Side, confidentiality, integrity, Yes, No, Outcome}
+use Rattle.model.specs.Answers.{Side, confidentiality, integrity, Yes, No}
 use Rattle.model.specs.Terms.{Term, readTerm, held}
 use Rattle.model.specs.Ledgers.{withCheck, ledgerOf}
 use Rattle.model.specs.Questions.{actsFor, flowsTo}

@@ -1,13 +1,12 @@
 -- An extract's table: its length, its marks, and that it turns on the marks alone. Assumes nothing.
 use mathlib.Core.Path.{_≡_, refl, sym, ap, ap₂, _∙_, fun-ext}
-use mathlib.Core.Logic.{_⊎_, inl, inr, ⊎-elim}
-use Prim.Native.Nat.{ℕ, zero, suc, _+_, _-_, _*_, _/_, _%_, _^_, _≤_, _<_}
+use mathlib.Core.Logic.{⊎-elim}
+use Prim.Native.Nat.{ℕ, zero, suc, _+_, _*_, _/_, _%_, _^_, _≤_, _<_}
 use native.Mathlib.Nat.{not-suc-le-zero, le-trans, zero-add}
-use mathlib.Core.Bool.{Bool, true, false, _&&_}
-use mathlib.Core.List.{List, [], _∷_, _++_}
+use mathlib.Core.Bool.{Bool}
+use mathlib.Core.List.{List, _++_}
 use native.Mathlib.Omega.{arith}
-use lib.Dec.{ltb}
-use lib.ListN.{length, getD, length-append, List·getD-append}
+use lib.ListN.{length, getD, List·getD-append}
 use lib.Seq.{getD-append-add}
 use lib.Pow.{pow-mono}
 use borrow.Author.Tests.{lt-ltb, le-ltb}
@@ -52,10 +51,6 @@ module _ (n : ℕ) (S : Marks) where
 
   change : List ℕ
   change = packedBytes (mark n (S integrity)) 0 512
-
-  pub table-length : length (table n S) ≡ 1024
-  unfolding table
-  table-length = simp (length-append, length-packed)
 
   -- every one of the 8,192 marks is where document 01 has it
   pub table-marks : (s : Side) (c : ℕ) → c < 4096 → marked (table n S) s c ≡ mark n (S s) c

@@ -1,4 +1,5 @@
 -- The theorems' proofs; a function's own proof only cites them.
+pub mod Lent
 pub mod Asking
 pub mod Coalitions
 pub mod Soundness

@@ -1,4 +1,5 @@
 pub mod Reading
+pub mod Buffers
 pub mod Answers
 pub mod Algebra
 pub mod Rules

@@ -1,5 +1,4 @@
 -- `short_forms::write` meets its contract. Assumes nothing.
-use mathlib.Core.Path.{sym}
 use Prim.Native.Nat.{_≤_}
 use native.Mathlib.Omega.{arith}
 use lib.ListN.{length-take, length-drop}
@@ -21,16 +20,18 @@ evaluate-requires : tie.Need-evaluate-requires
 evaluate-requires c κs = search needs
 
 slice-aggregate-list-side : tie.Need-slice-aggregate-list-side
-slice-aggregate-list-side c = sym (c .before .evaluate .ensures .0 .same)
+slice-aggregate-list-side c = let tables = c .before .evaluate .ensures in omega (arith, tables .0 .same, tables .1 .same)
 
 list-side-requires : tie.Need-list-side-requires
 list-side-requires c κs =
     let e = c .before .before in
     let s = start e in
-    omega (arith, pow-mono (s .pre .0), words-few (s .args .n), e .evaluate .ensures .0 .same)
+    omega (arith, pow-mono (s .pre .0), words-few (s .args .n), e .evaluate .ensures .0 .same, e .evaluate .ensures .1 .same)
 
 slice-aggregate-list-side-2 : tie.Need-slice-aggregate-list-side-2
-slice-aggregate-list-side-2 c = sym (c .before .before .before .before .before .before .evaluate .ensures .1 .same)
+slice-aggregate-list-side-2 c =
+    let tables = c .before .before .before .before .before .before .evaluate .ensures in
+    omega (arith, tables .0 .same, tables .1 .same)
 
 sub-list-side : tie.Need-sub-list-side
 sub-list-side c = omega (arith, few (c .before .before .before))
@@ -46,7 +47,7 @@ list-side-requires-2 c κs =
     let first = c .before .before .before .before in
     let e = first .before .before .before in
     let s = start e in
-    simp (length-take, length-drop) (omega (arith, pow-mono (s .pre .0), words-few (s .args .n), few first, e .evaluate .ensures .1 .same))
+    simp (length-take, length-drop) (omega (arith, pow-mono (s .pre .0), words-few (s .args .n), few first, e .evaluate .ensures .0 .same, e .evaluate .ensures .1 .same))
 
 add-result : tie.Need-add-result
 add-result c =

@@ -4,7 +4,6 @@ use terms::TermReading;
 ghost use mathlib.Core.Path.{_≡_};
 ghost use mathlib.Core.Bool.{Bool, not, _&&_};
 ghost use Prim.Native.Nat.{ℕ, _*_, _^_, _≤_, _<_};
-ghost use lib.ListN.{length};
 ghost use Rattle.model.specs.Bytes.{accepted};
 ghost use Rattle.model.specs.Answers.{confidentiality, integrity, number};
 ghost use Rattle.model.specs.Terms.{Term, readTerm};
@@ -13,7 +12,6 @@ ghost use Rattle.model.specs.Ledgers.{Ledger, pBytes, qBytes};
 ghost use Rattle.model.specs.Questions.{at, lowest, soundUnder, ask, actsFor, flowsTo};
 ghost use Rattle.model.specs.Extracts.{mark, packed};
 ghost use Rattle.model.specs.Derivations.{grantBlock};
-ghost use Rattle.words.specs.Evaluation.{wordsOf};
 ghost use Rattle.decisions.specs.Promises.{ClearTo, GrantGiven, LedgerOf, countingMarks, WordsOf, keeping, soundOf};
 ghost use Rattle.decisions.specs.Answers.{answerOf, questionOf, opposedOf, refutersOf, seeFirst, Asked};
 

@@ -15,11 +15,11 @@ use Rattle.model.specs.Grants.{Grant}
 use Rattle.model.specs.Ledgers.{Ledger, qBytes, labelBytes}
 use Rattle.model.specs.Extracts.{bit, packed}
 use Rattle.model.specs.Derivations.{ofGrant, grantBlock}
-use Rattle.model.proofs.Packed.{packed-lt}
+use Rattle.model.proofs.Packed.{bit-lt, packed-lt}
 use Rattle.model.proofs.Prefixes.{ofGrant-past}
 use Rattle.model.proofs.Stands.{GrantStands, LedgerStands, ledger-stands}
 use Rattle.words.specs.Evaluation.{wordsOf, Tabled}
-use Rattle.words.proofs.Packing.{bit-lt, packed-zero}
+use Rattle.words.proofs.Packing.{packed-zero}
 use Rattle.decisions.specs.Promises.{GrantGiven, LedgerOf}
 
 -- what stands for a grant past the last

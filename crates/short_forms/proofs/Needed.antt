@@ -4,9 +4,7 @@ use mathlib.Core.Bool.{Bool, true, false, not}
 use mathlib.Core.List.{List}
 use mathlib.Core.Logic.{_↔_}
 use Prim.Native.Nat.{ℕ, _-_, _*_, _/_, _%_, _^_, _≤_, _<_}
-use native.Mathlib.Nat.{one-mul, mod-eq-of-lt}
 use native.Mathlib.Omega.{arith}
-use lib.Pow.{pow-mono}
 use borrow.Author.Tests.{eq-eqb, ne-eqb, not-true}
 use Rattle.model.specs.Answers.{Side}
 use Rattle.model.specs.Terms.{Term, NamesBelow, member, held}
@@ -18,12 +16,8 @@ use Rattle.model.proofs.Monotone.{NoneLess, member-le, held-monotone, minimal-s
 use Rattle.model.proofs.Listed.{those-cong}
 use Rattle.model.proofs.Packed.{member-packed}
 use Rattle.words.specs.Evaluation.{wordsOf, Tabled}
-use Rattle.words.proofs.Names.{words-enough}
+use Rattle.words.proofs.Names.{words-enough, shifted}
 use Rattle.short_forms.specs.Listings.{marked, irredundant, listing}
-
--- the code's `1 << i`
-pub shifted : (i : ℕ) → i ≤ 12 → 1 * 2 ^ i % 2 ^ 64 ≡ 2 ^ i
-shifted i h = ap (λ (x : ℕ). x % 2 ^ 64) (one-mul (2 ^ i)) ∙ mod-eq-of-lt (omega (arith, pow-mono h))
 
 -- the code's test of bit i, and the number without it
 module _ (i c : ℕ) where

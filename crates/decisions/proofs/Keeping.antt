@@ -1,6 +1,6 @@
 -- Words of coalitions that keep the counting grants, one grant after another. Assumes nothing.
 use mathlib.Core.Path.{_≡_, refl, sym, ap, ap₂, _∙_}
-use mathlib.Core.Bool.{Bool, true, false, not, _&&_, _||_, true≢false}
+use mathlib.Core.Bool.{Bool, true, false, not, _&&_, _||_, and-true, and-assoc, true≢false}
 use mathlib.Core.List.{List}
 use Prim.Native.Nat.{ℕ, suc, _+_, _-_, _*_, _/_, _%_, _≤_, _<_}
 use native.Mathlib.Numerals.{add-one}
@@ -77,10 +77,6 @@ words-same f g w see change e h = record {
   change-word = h .change-word ∙ packed-cong (f integrity) (g integrity) (64 * w) 64 (λ c _ _. e integrity c);
 }
 
-and-true : (b : Bool) → (b && true) ≡ b
-and-true true = refl
-and-true false = refl
-
 -- ---- the grants one after another
 
 -- those of f that keep the counting grants among the first k
@@ -153,10 +149,6 @@ module _ (n : ℕ) (L : Term) (l : Ledger) (f : Marks) (w : ℕ) where
         words = words-same (λ s c. soundFirst n L l f k s c && implies (counts n L g) (keeps g s c)) (soundFirst n L l f (k + 1)) w see′ change′
             (λ s c. and-assoc (f s c) (sound (counting n L (take k (l .grants))) s c) (implies (counts n L g) (keeps g s c)) ∙ rw (add-one, sound-more n L s c (l .grants) k noGrant (omega (arith, h .count)))) v;
       }
-        where
-          and-assoc : (a b d : Bool) → ((a && b) && d) ≡ (a && (b && d))
-          and-assoc true b d = refl
-          and-assoc false b d = refl
 
       -- the grant counts, and those of the words that keep it were taken
       pub so-far-keep : (see′ change′ : ℕ) → left % 2 ≡ 1 → WordsOf (keeping (soundFirst n L l f k) (grantAt l k)) w see′ change′ → SoFar n L l f w (k + 1) (left / 2) see′ change′

@@ -1,6 +1,5 @@
 -- Laws that the proofs of this crate cite.
 pub mod Tests
-pub mod Filled
 pub mod Marks
 pub mod Keeping
 pub mod Refuting

@@ -9,17 +9,18 @@ use mir.Val.{boolByte}
 use lib.Bits.{bitOr, or-shifted}
 use lib.ListN.{length, getD}
 use lib.Pow.{pow-mono}
+use Rattle.model.specs.Answers.{confidentiality, integrity}
 use Rattle.model.specs.Terms.{Term, top}
 use Rattle.model.specs.Grants.{Grant}
 use Rattle.model.specs.Ledgers.{Ledger, qBytes, labelBytes}
 use Rattle.model.specs.Extracts.{bit, packed}
 use Rattle.model.specs.Derivations.{ofGrant, grantBlock}
-use Rattle.model.proofs.Packed.{packed-lt}
+use Rattle.model.proofs.Packed.{bit-lt, packed-lt}
 use Rattle.model.proofs.Prefixes.{ofGrant-past}
 use Rattle.model.proofs.Stands.{GrantStands, LedgerStands, ledger-stands}
-use Rattle.words.specs.Evaluation.{wordsOf}
-use Rattle.words.proofs.Packing.{bit-lt, packed-zero}
-use Rattle.decisions.specs.Promises.{HasWords, GrantGiven, LedgerOf}
+use Rattle.words.specs.Evaluation.{wordsOf, Tabled}
+use Rattle.words.proofs.Packing.{packed-zero}
+use Rattle.decisions.specs.Promises.{GrantGiven, LedgerOf}
 
 -- what stands for a grant past the last
 abbrev pub noGrant : Grant
@@ -64,11 +65,13 @@ module _ (bytes : List ℕ) (n grants : ℕ) (l : Ledger) (h : LedgerOf bytes n 
   grant-at k below = rw (h .names) (stands .grant k noGrant (omega (arith, h .count)))
 
   -- what the test of grant k is given
-  pub grant-given : (L : Term) (see change q d : List ℕ) (k : ℕ) → k < grants → HasWords (wordsOf n) L see change → q ≡ qBytes (grantBlock bytes k) → d ≡ labelBytes (grantBlock bytes k)
+  pub grant-given : (L : Term) (see change q d : List ℕ) (k : ℕ) → k < grants → Tabled L confidentiality (wordsOf n) see → Tabled L integrity (wordsOf n) change
+      → q ≡ qBytes (grantBlock bytes k) → d ≡ labelBytes (grantBlock bytes k)
       → GrantGiven n see change q d L (grantAt l k)
-  grant-given L see change q d k below w e f = record {
+  grant-given L see change q d k below a b e f = record {
     names-most = names-few;
-    words = w;
+    see-words = a;
+    change-words = b;
     q-read = rw e (grant-at k below .q .is);
     label-read = rw f (grant-at k below .label .is);
   }

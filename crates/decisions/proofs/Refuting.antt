@@ -1,8 +1,7 @@
 -- Words of the coalitions that refute an answer, and the lowest of them. Assumes nothing.
-use mathlib.Core.Path.{_≡_, refl, sym, ap, _∙_}
+use mathlib.Core.Path.{_≡_, refl, sym, _∙_}
 use mathlib.Core.Bool.{Bool, true, false, not, _&&_}
 use Prim.Native.Nat.{ℕ, _+_, _-_, _*_, _^_, _≤_, _<_}
-use native.Mathlib.Nat.{zero-add}
 use native.Mathlib.Omega.{arith}
 use native.Mathlib.Decide.{ℕ-discrete}
 use lib.Bits.{bitAnd}
@@ -15,7 +14,7 @@ use Rattle.model.specs.Ledgers.{Ledger}
 use Rattle.model.specs.Questions.{Lowest, nowhere, at, lowest, refutes, ground, judge, across, soundUnder, actsForUnder, flowsToUnder}
 use Rattle.model.specs.Extracts.{mark, packed}
 use Rattle.model.proofs.Bars.{lacks}
-use Rattle.model.proofs.Packed.{bits-ext, member-packed, packed-lt}
+use Rattle.model.proofs.Packed.{own-bits}
 use Rattle.words.specs.Evaluation.{coalitionWord, wordsOf, HeldAt, LowestBit}
 use Rattle.words.proofs.Packing.{packed-cong, packed-and, packed-none}
 use Rattle.words.proofs.Searches.{lowest-found, lowest-none}
@@ -46,17 +45,11 @@ module _ (n : ℕ) (p q : Term) (w mask ps pc pn qs qc qn : ℕ) (m : mask ≡ c
     change-word = acts-words .change-word;
   }
 
--- a word is the marks that its bits are
-word-bits : (x : ℕ) → x < 2 ^ 64 → x ≡ packed (λ j. member j x) 0 64
-word-bits x h =
-    bits-ext 64 x (packed (λ j. member j x) 0 64) h (packed-lt (λ j. member j x) 0 64)
-    (λ i l. sym (member-packed (λ j. member j x) 0 64 i l ∙ ap (λ (j : ℕ). member j x) (zero-add i)))
-
 -- the number of the lowest bit is 64 at most
 pub lowest-small : (x r : ℕ) → x < 2 ^ 64 → LowestBit x r → r ≤ 64
 lowest-small x r h b = elim (ℕ-discrete x 0) [
   | yes z ↦ omega (arith, b .none z)
-  | no nz ↦ omega (arith, b .found (λ j. member j x) 0 (word-bits x h) nz .small)
+  | no nz ↦ omega (arith, b .found (λ j. member (j - 0) x) 0 (own-bits x 0 64 h) nz .small)
 ]
 
 -- the lowest coalition is that of the lowest bit of the first word that is not 0

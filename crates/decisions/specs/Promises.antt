@@ -3,7 +3,7 @@ use mathlib.Core.Path.{_≡_}
 use mathlib.Core.Bool.{Bool, false, _&&_}
 use mathlib.Core.List.{List}
 use Prim.Native.Nat.{ℕ, _*_, _≤_, _<_}
-use lib.ListN.{length, getD}
+use lib.ListN.{length}
 use Rattle.model.specs.Answers.{confidentiality, integrity}
 use Rattle.model.specs.Bytes.{accepted}
 use Rattle.model.specs.Terms.{Term, readTerm, held}
@@ -12,21 +12,17 @@ use Rattle.model.specs.Ledgers.{Ledger, readLedger}
 use Rattle.model.specs.Questions.{soundUnder}
 use Rattle.model.specs.Extracts.{mark, packed}
 use Rattle.model.specs.Derivations.{ofGrant}
-use Rattle.words.specs.Evaluation.{heldWord, wordsOf}
+use Rattle.words.specs.Evaluation.{wordsOf, Tabled}
 
 -- f holds at no coalition of n names in the words before w.
 abbrev pub ClearTo : ℕ → (ℕ → Bool) → ℕ → Type 0
 ClearTo n f w = (c : ℕ) → c < 64 * w → mark n f c ≡ false
 
--- The first k words of a term, a list of them for each side.
-pub record HasWords (k : ℕ) (t : Term) (see change : List ℕ) : Type 0 where
-  pub see-word : (w : ℕ) → w < k → getD see w 0 ≡ heldWord t confidentiality w
-  pub change-word : (w : ℕ) → w < k → getD change w 0 ≡ heldWord t integrity w
-
 -- The bytes of a grant's q and of its label, in a job of n names, and the words of the label that it is judged under.
 pub record GrantGiven (n : ℕ) (see change q d : List ℕ) (L : Term) (g : Grant) : Type 0 where
   pub names-most : n ≤ 12
-  pub words : HasWords (wordsOf n) L see change
+  pub see-words : Tabled L confidentiality (wordsOf n) see
+  pub change-words : Tabled L integrity (wordsOf n) change
   pub q-read : readTerm n q ≡ accepted (g .q)
   pub label-read : readTerm n d ≡ accepted (g .label)
 

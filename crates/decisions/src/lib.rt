@@ -4,7 +4,6 @@ use terms::TermReading;
 ghost use mathlib.Core.Path.{_≡_};
 ghost use mathlib.Core.Bool.{Bool, not, _&&_};
 ghost use Prim.Native.Nat.{ℕ, _*_, _^_, _≤_, _<_};
-ghost use lib.ListN.{length};
 ghost use Rattle.model.specs.Bytes.{accepted};
 ghost use Rattle.model.specs.Answers.{confidentiality, integrity, number};
 ghost use Rattle.model.specs.Terms.{Term, readTerm};
@@ -13,25 +12,8 @@ ghost use Rattle.model.specs.Ledgers.{Ledger, pBytes, qBytes};
 ghost use Rattle.model.specs.Questions.{at, lowest, soundUnder, ask, actsFor, flowsTo};
 ghost use Rattle.model.specs.Extracts.{mark, packed};
 ghost use Rattle.model.specs.Derivations.{grantBlock};
-ghost use Rattle.words.specs.Evaluation.{wordsOf};
-ghost use Rattle.decisions.specs.Promises.{ClearTo, HasWords, GrantGiven, LedgerOf, countingMarks, WordsOf, keeping, soundOf};
+ghost use Rattle.decisions.specs.Promises.{ClearTo, GrantGiven, LedgerOf, countingMarks, WordsOf, keeping, soundOf};
 ghost use Rattle.decisions.specs.Answers.{answerOf, questionOf, opposedOf, refutersOf, seeFirst, Asked};
-
-// All words of a term, word w at place w: they are computed once and not once a grant.
-fn fill_words(codes: &[u8], n: u64, see: &mut [u64; 64], change: &mut [u64; 64])
-    requires { ⌜ (length (now see) ≡ 64) × (length (now change) ≡ 64) ⌝ }
-    ensures { λ _. ⌜ ((t : Term) → readTerm n (now (codes .entry)) ≡ accepted t → HasWords (wordsOf n) t (now (see .exit)) (now (change .exit))) ⌝ }
-{
-    let words = words::word_count(n);
-    let mut w: u64 = 0;
-    while w < words {
-        let held = words::words_of(codes, w);
-        let at = w as usize;
-        see[at] = held.see;
-        change[at] = held.change;
-        w += 1;
-    }
-}
 
 // Those of a word that don't hold the voice of q. Where the word is 0 there is no need of q.
 fn unspoken(q: &[u8], w: u64, change: u64) -> u64
@@ -74,7 +56,7 @@ pub fn counting(ledger: &[u8], n: u64, grants: usize, label: &[u8]) -> u64
     }
     let mut see = [0u64; 64];
     let mut change = [0u64; 64];
-    fill_words(label, n, &mut see, &mut change);
+    words::evaluate(label, n, &mut see, &mut change);
     let mut marks: u64 = 0;
     let mut k = grants;
     while 0 < k {

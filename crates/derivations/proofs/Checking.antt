@@ -1,6 +1,6 @@
 -- A step's check, one test after another. Assumes nothing.
 use Prim.Native.Nat.{ℕ, suc, _+_, _-_, _%_, _^_, _≤_, _<_}
-use native.Mathlib.Nat.{div-eq-of-lt, lt-of-lt-of-le, zero-add, sub-zero}
+use native.Mathlib.Nat.{lt-of-lt-of-le, zero-add, sub-zero}
 use native.Mathlib.Decide.{decLt}
 use native.Mathlib.Numerals.{add-one}
 use native.Mathlib.Omega.{arith}
@@ -20,6 +20,7 @@ use Rattle.model.specs.Extracts.{packed}
 use Rattle.model.specs.Derivations.{stepAt, ruleOf, usesOf, stepForm, readLeft, readRight, isAccepted, ofGrant, checkStep, onStep, checkSteps, derivationLength, stepCount, checkDerivation, ifAccepted, grantBlock, quote}
 use Rattle.model.proofs.Truth.{and-right}
 use Rattle.model.proofs.Packed.{member-packed, packed-lt}
+use Rattle.model.proofs.Monotone.{member-past}
 use Rattle.model.proofs.Prefixes.{ofGrant-past}
 use Rattle.model.proofs.Stands.{ledger-stands}
 use Rattle.terms.specs.Readings.{termReading}
@@ -28,14 +29,14 @@ use Rattle.ledgers.proofs.Accepted.{AcceptedLedger}
 use Rattle.terms.specs.declared.TermReading.{TermReading}
 use Rattle.terms.specs.declared.TermReading.the-variants.{Accepted as TermAccepted, Refused as TermRefused}
 use Rattle.decisions.specs.Promises.{LedgerOf, countingMarks}
+use Rattle.decisions.proofs.Asking.{ledger-of}
 use Rattle.derivations.specs.Steps.{readField, readStep, premisesBefore, Ready, meetsAt, checkAt, stepCheck}
 use Rattle.derivations.specs.declared.StepCheck.{StepCheck}
 use Rattle.derivations.specs.declared.StepCheck.the-variants.{Accepted, Refused}
 
 -- the marks of a word end at 64
-pub member-past : (k x : ℕ) → x < 2 ^ 64 → 64 ≤ k → member k x ≡ false
-unfolding member
-member-past k x h l = rw (div-eq-of-lt {n = x} {m = 2 ^ k} (lt-of-lt-of-le h (pow-mono l)))
+pub word-past : (k x : ℕ) → x < 2 ^ 64 → 64 ≤ k → member k x ≡ false
+word-past k x h l = member-past k x (lt-of-lt-of-le h (pow-mono l))
 
 -- the term was accepted
 abbrev pub told : TermReading → Bool
@@ -58,7 +59,10 @@ right-told n step s e = term-told (readRight n step) ∙ ap told e
 
 -- the marks of grants that count say so of each grant
 pub marks-say : (f : Grant → Bool) (gs : List Grant) (k : ℕ) → length gs ≤ 64 → member k (packed (ofGrant f gs) 0 64) ≡ ofGrant f gs k
-marks-say f gs k h = elim (decLt k 64) [ yes b ↦ member-packed (ofGrant f gs) 0 64 k b ∙ ap (ofGrant f gs) (zero-add k) | no b ↦ member-past k (packed (ofGrant f gs) 0 64) (packed-lt (ofGrant f gs) 0 64) (omega arith) ∙ sym (ofGrant-past f gs k (omega arith)) ]
+marks-say f gs k h = elim (decLt k 64) [
+  | yes b ↦ member-packed (ofGrant f gs) 0 64 k b ∙ ap (ofGrant f gs) (zero-add k)
+  | no b ↦ word-past k (packed (ofGrant f gs) 0 64) (packed-lt (ofGrant f gs) 0 64) (omega arith) ∙ sym (ofGrant-past f gs k (omega arith))
+]
 
 -- what follows the reading of a step; a refusal stays the answer
 abbrev pub onRead : StepCheck → StepCheck → StepCheck
@@ -175,7 +179,7 @@ module _ (d ledger label : List ℕ) where
           → ((l : Ledger) (L : Term) → LedgerOf ledger n k l → marks ≡ countingMarks n L l → answer ≡ checkSteps l L d 0 (stepCount d))
           → answer ≡ checkDerivation d ledger label
       steps-checked marks answer e counted checked =
-          let of : LedgerOf ledger n k (read .ledger) = record { is = read .is; names = sym (read .names); count = sym (read .count) } in
+          let of = ledger-of ledger n k read in
           rw (both-accepted (term .term) (term .is), e) (checked (read .ledger) (term .term) of (counted (read .ledger) (term .term) of (term .is)))
 
 -- ---- quoting

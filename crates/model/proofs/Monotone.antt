@@ -51,6 +51,10 @@ pub member-le : (i c : ℕ) → member i c ≡ true → 2 ^ i ≤ c
 member-le zero c e = omega (arith, odd-member c e)
 member-le (suc i) c e = omega (arith, member-le i (c / 2) (sym (member-suc i c) ∙ e), pow-suc 2 i)
 
+-- so a number has no members past it
+pub member-past : (i c : ℕ) → c < 2 ^ i → member i c ≡ false
+member-past i c h = false-of (member i c) (λ e. omega (arith, member-le i c e))
+
 half-less : (i c : ℕ) → member (suc i) c ≡ true → (c - 2 ^ suc i) / 2 ≡ c / 2 - 2 ^ i
 half-less i c e = omega (arith, member-le (suc i) c e, pow-suc 2 i)
 

@@ -1,6 +1,6 @@
 -- The bits of a word, read off lowest first. Assumes nothing.
 use mathlib.Core.Path.{_≡_, sym, ap, ap₂, _∙_}
-use mathlib.Core.Bool.{Bool, true, false}
+use mathlib.Core.Bool.{Bool, true}
 use mathlib.Core.List.{List, [], _∷_, _++_, append-nil}
 use Prim.Native.Nat.{ℕ, _+_, _-_, _/_, _%_, _^_, _≤_, _<_}
 use native.Mathlib.Decide.{decLt}
@@ -10,20 +10,16 @@ use lib.ListN.{length, length-append}
 use lib.Pow.{pow-mono, pow-pos, shr-shr, shr-le}
 use Rattle.model.specs.Terms.{member}
 use Rattle.model.specs.ShortForms.{those}
-use Rattle.model.proofs.Truth.{false-of}
-use Rattle.model.proofs.Monotone.{member-le}
+use Rattle.model.proofs.Packed.{own-bits}
+use Rattle.model.proofs.Monotone.{member-le, member-past}
 use Rattle.model.proofs.Listed.{those-add, those-none, those-one}
 use Rattle.words.specs.Evaluation.{LowestMark, LowestBit}
 use Rattle.short_forms.specs.Listings.{bitsOf}
-use Rattle.short_forms.proofs.Reduced.{own-bits}
 
 -- bit j of a number moved a places down
 member-moved : (x a j : ℕ) → member j (x / 2 ^ a) ≡ member (a + j) x
 unfolding member
 member-moved x a j = ap (λ (y : ℕ). eqb (y % 2) 1) (shr-shr x a j)
-
-none-zero : (j : ℕ) → member j 0 ≡ false
-none-zero j = false-of (member j 0) (λ e. omega (arith, member-le j 0 e, pow-pos j))
 
 -- number c stands for bit c - first of the word
 abbrev pub bitAt : ℕ → ℕ → ℕ → Bool
@@ -62,7 +58,7 @@ module _ (word first c rest : ℕ) (from : first ≤ c) (moved : rest ≡ word /
       let s : first + (c - first) ≡ c = omega arith in
       let none : those (bitAt word first) (first + (c - first)) (64 - (c - first)) ≡ [] = those-none (bitAt word first) (first + (c - first)) (64 - (c - first)) (λ k l m.
       let j : c + (k - c) ≡ k = omega arith in
-      ap (bitAt word first) (sym j) ∙ bit-moved (k - c) ∙ ap (member (k - c)) z ∙ none-zero (k - c)) in
+      ap (bitAt word first) (sym j) ∙ bit-moved (k - c) ∙ ap (member (k - c)) z ∙ member-past (k - c) 0 (pow-pos (k - c))) in
       sym (ap (those (bitAt word first) first) (sym e) ∙ those-add (bitAt word first) first (c - first) (64 - (c - first))
       ∙ ap (λ (l : List ℕ). passed word first c ++ l) none ∙ append-nil (passed word first c))
 

@@ -1,5 +1,4 @@
 -- What the proofs of the functions cite.
-pub mod Tables
 pub mod Needed
 pub mod Reduced
 pub mod Fronts

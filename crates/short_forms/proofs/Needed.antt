@@ -4,25 +4,20 @@ use mathlib.Core.Bool.{Bool, true, false, not}
 use mathlib.Core.List.{List}
 use mathlib.Core.Logic.{_↔_}
 use Prim.Native.Nat.{ℕ, _-_, _*_, _/_, _%_, _^_, _≤_, _<_}
-use native.Mathlib.Nat.{one-mul, mod-eq-of-lt}
 use native.Mathlib.Omega.{arith}
-use lib.Pow.{pow-mono}
 use borrow.Author.Tests.{eq-eqb, ne-eqb, not-true}
 use Rattle.model.specs.Answers.{Side}
-use Rattle.model.specs.Terms.{Term, codes, NamesBelow, member, held}
+use Rattle.model.specs.Terms.{Term, NamesBelow, member, held}
 use Rattle.model.specs.Grants.{implies, every}
 use Rattle.model.specs.ShortForms.{minimal, listed}
 use Rattle.model.proofs.Truth.{and-intro, and-left, and-right, implies-elim, implies-intro, bool-ext}
 use Rattle.model.proofs.Search.{every-elim, every-intro}
 use Rattle.model.proofs.Monotone.{NoneLess, member-le, held-monotone, minimal-says}
 use Rattle.model.proofs.Listed.{those-cong}
-use Rattle.words.specs.Evaluation.{wordsOf}
-use Rattle.short_forms.specs.Listings.{marked, Tabled, irredundant, listing}
-use Rattle.short_forms.proofs.Tables.{tabled-marks}
-
--- the code's `1 << i`
-pub shifted : (i : ℕ) → i ≤ 12 → 1 * 2 ^ i % 2 ^ 64 ≡ 2 ^ i
-shifted i h = ap (λ (x : ℕ). x % 2 ^ 64) (one-mul (2 ^ i)) ∙ mod-eq-of-lt (omega (arith, pow-mono h))
+use Rattle.model.proofs.Packed.{member-packed}
+use Rattle.words.specs.Evaluation.{wordsOf, Tabled}
+use Rattle.words.proofs.Names.{words-enough, shifted}
+use Rattle.short_forms.specs.Listings.{marked, irredundant, listing}
 
 -- the code's test of bit i, and the number without it
 module _ (i c : ℕ) where
@@ -51,14 +46,22 @@ module _ (n : ℕ) (f : ℕ → Bool) (c : ℕ) where
     λ w. and-intro (w .0) (every-intro needed n (λ i l. implies-intro (member i c) (not (f (c - 2 ^ i))) (λ m. ap not (w .1 i l m)))),
   )
 
+-- the table of a term of n names marks the coalitions that hold it
+tabled-marks : (s : Side) (words : List ℕ) (n : ℕ) (t : Term) → n ≤ 12 → Tabled t s (wordsOf n) words → (c : ℕ) → c < 2 ^ n → marked words c ≡ held t s c
+unfolding marked
+tabled-marks s words n t h done c l =
+    ap (member (c % 64)) (done .word (c / 64) (omega (arith, words-enough n h)))
+    ∙ member-packed (held t s) (64 * (c / 64)) 64 (c % 64) (omega arith)
+    ∙ ap (held t s) (omega arith)
+
 -- the table's listing is the term's
-pub listing-listed : (bytes : List ℕ) (s : Side) (words : List ℕ) (n : ℕ) (t : Term) → n ≤ 12 → Tabled bytes s words (wordsOf n) → bytes ≡ codes t → NamesBelow n t
+pub listing-listed : (s : Side) (words : List ℕ) (n : ℕ) (t : Term) → n ≤ 12 → NamesBelow n t → Tabled t s (wordsOf n) words
     → listing n (irredundant n (marked words)) ≡ listed n (held t s)
 unfolding listing listed
-listing-listed bytes s words n t h done e b = rw (those-cong (irredundant n (marked words)) (minimal n (held t s)) 0 (2 ^ n) (λ c z l. same c (omega arith)))
+listing-listed s words n t h b done = rw (those-cong (irredundant n (marked words)) (minimal n (held t s)) 0 (2 ^ n) (λ c z l. same c (omega arith)))
   where
     marks : (c : ℕ) → c < 2 ^ n → marked words c ≡ held t s c
-    marks = tabled-marks bytes s words n t h done e b
+    marks = tabled-marks s words n t h done
 
     same : (c : ℕ) → c < 2 ^ n → irredundant n (marked words) c ≡ minimal n (held t s) c
     same c l =

@@ -7,27 +7,21 @@ use native.Mathlib.Nat.{mul-comm, mul-assoc, add-mul, mul-lt-mul-of-pos-right, a
 use native.Mathlib.Numerals.{add-one}
 use native.Mathlib.Omega.{arith}
 use lib.Bits.{bitAnd}
-use lib.Dec.{eqb, leb}
+use lib.Dec.{leb}
 use lib.ListN.{getD}
-use lib.Pow.{pow-mono, pow-add, pow-pos, low, shr-shr}
+use lib.Pow.{pow-mono, pow-add, pow-pos, low}
 use borrow.Author.Tests.{eqb-true, le-leb, lt-leb}
 use Rattle.model.specs.Terms.{name, codes, NamesBelow, member, held}
 use Rattle.model.specs.Extracts.{packed}
 use Rattle.model.specs.Grants.{implies, every}
 use Rattle.model.proofs.Truth.{clash, false-of}
-use Rattle.model.proofs.Packed.{member-packed, packed-lt, bits-ext}
+use Rattle.model.proofs.Packed.{packed-lt, own-bits}
 use Rattle.model.proofs.Monotone.{member-le}
 use Rattle.words.specs.Evaluation.{EvaluatedWhole}
 use Rattle.words.proofs.Packing.{packed-shift, packed-cong, packed-and, packed-not, packed-none, packed-zero, packed-split}
-use Rattle.words.proofs.Names.{below-six, words-full}
+use Rattle.words.proofs.Names.{below-six, high-member, words-full, shifted}
 use Rattle.short_forms.specs.Listings.{marked, markedWithout, irredundant}
-use Rattle.short_forms.proofs.Needed.{shifted, irredundant-says}
-
--- a number is the word of its own bits, wherever they start
-pub own-bits : (x i k : ℕ) → x < 2 ^ k → x ≡ packed (λ c. member (c - i) x) i k
-own-bits x i k h = bits-ext k x (packed (λ c. member (c - i) x) i k) h (packed-lt (λ c. member (c - i) x) i k) (λ j l.
-    let e : i + j - i ≡ j = omega arith in
-    sym (member-packed (λ c. member (c - i) x) i k j l ∙ ap (λ (m : ℕ). member m x) e))
+use Rattle.short_forms.proofs.Needed.{irredundant-says}
 
 -- the bits f from i on, a places up: below i + a there are none, and those that the k places have no room for are lost
 abbrev raised : (ℕ → Bool) → ℕ → ℕ → ℕ → Bool
@@ -77,28 +71,21 @@ less-low f w i h =
     here c l m true e = rw (e, le-leb (64 * w + 2 ^ i) c (low-worth w c i l m h e)) (and-comm (f (c - 2 ^ i)) true)
     here c l m false e = rw e (and-comm (raised f (64 * w) (2 ^ i) c) false)
 
--- a name from 6 up is a member of all coalitions of a word, or of none
+-- a name from 6 up, which all coalitions of a word have or none
 module _ (w i : ℕ) (h : 6 ≤ i) where
-  high-member : (c : ℕ) → 64 * w ≤ c → c < 64 * w + 64 → member i c ≡ member (i - 6) w
-  unfolding member
-  high-member c l m =
-      let s : 6 + (i - 6) ≡ i = omega arith in
-      let q : c / 64 ≡ w = omega arith in
-      ap (λ (x : ℕ). eqb (x % 2) 1) (ap (λ (x : ℕ). c / 2 ^ x) (sym s) ∙ sym (shr-shr c 6 (i - 6)) ∙ ap (λ (x : ℕ). x / 2 ^ (i - 6)) q)
-
   -- without it they are those of another word
   less-high : (f : ℕ → Bool) → member (i - 6) w ≡ true → packed f (64 * (w - 2 ^ (i - 6))) 64 ≡ packed (markedWithout i f) (64 * w) 64
   unfolding markedWithout
   less-high f e =
       packed-shift f (markedWithout i f) (64 * (w - 2 ^ (i - 6))) (64 * w) 64
       (λ j l.
-      let m : member i (64 * w + j) ≡ true = high-member (64 * w + j) (omega arith) (omega arith) ∙ e in
+      let m : member i (64 * w + j) ≡ true = high-member i w (64 * w + j) h (omega arith) (omega arith) ∙ e in
       let q : 64 * (w - 2 ^ (i - 6)) + j ≡ 64 * w + j - 2 ^ i = omega (arith, words-full i h, member-le (i - 6) w e) in
       rw m (ap f q))
 
   pub less-nowhere : (f : ℕ → Bool) → member (i - 6) w ≡ false → 0 ≡ packed (markedWithout i f) (64 * w) 64
   unfolding markedWithout
-  less-nowhere f e = sym (packed-cong (markedWithout i f) (λ c. false) (64 * w) 64 (λ c l m. rw (high-member c l m, e)) ∙ packed-none (64 * w) 64)
+  less-nowhere f e = sym (packed-cong (markedWithout i f) (λ c. false) (64 * w) 64 (λ c l m. rw (high-member i w c h l m, e)) ∙ packed-none (64 * w) 64)
 
 -- word w of a table
 pub marked-word : (words : List ℕ) (w : ℕ) → getD words w 0 < 2 ^ 64 → getD words w 0 ≡ packed (marked words) (64 * w) 64

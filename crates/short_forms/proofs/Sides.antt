@@ -10,15 +10,15 @@ use lib.ListN.{length, take, drop, length-append, take-append-drop}
 use lib.Seq.{length-take-le, drop-at}
 use Rattle.model.specs.Bytes.{bigEndian}
 use Rattle.model.specs.Answers.{confidentiality, integrity}
-use Rattle.model.specs.Terms.{member}
+use Rattle.model.specs.Terms.{Term, NamesBelow, member, held}
 use Rattle.model.specs.Extracts.{mark, packed}
 use Rattle.model.specs.ShortForms.{those, pairs, shortForm}
 use Rattle.model.proofs.Listed.{those-add, those-cong, those-marks, length-marks, pairs-append, length-pairs, length-counted}
 use Rattle.model.proofs.Packed.{member-packed}
-use Rattle.words.specs.Evaluation.{LowestBit, coalitionWord, wordsOf}
+use Rattle.words.specs.Evaluation.{LowestBit, Tabled, coalitionWord, wordsOf}
 use Rattle.words.proofs.Names.{words-enough}
 use Rattle.words.proofs.Searches.{packed-mark}
-use Rattle.short_forms.specs.Listings.{marked, Tabled, bitsOf, irredundant, listing, FrontWritten, ShortWritten}
+use Rattle.short_forms.specs.Listings.{marked, bitsOf, irredundant, listing, FrontWritten}
 use Rattle.short_forms.proofs.Needed.{listing-listed}
 use Rattle.short_forms.proofs.Fronts.{front-same, front-part}
 use Rattle.short_forms.proofs.Bits.{passed, passed-few, NextBit, bits-end, bits-next}
@@ -150,14 +150,12 @@ listing-few n f w = omega (arith, w .size, length-counted f (2 ^ n))
 
 -- ---- both sides
 
-pub sides-written : {n : ℕ} {term see change before now part : List ℕ} {i j : ℕ} → n ≤ 12
-    → Tabled term confidentiality see (wordsOf n) → Tabled term integrity change (wordsOf n)
+pub sides-written : {n : ℕ} {t : Term} {see change before now part : List ℕ} {i j : ℕ} → n ≤ 12 → NamesBelow n t
+    → Tabled t confidentiality (wordsOf n) see → Tabled t integrity (wordsOf n) change
     → FrontWritten (listing n (irredundant n (marked see))) before now i
     → FrontWritten (listing n (irredundant n (marked change))) (take (length now - i) (drop i now)) part j
-    → ShortWritten n term before (take i now ++ (part ++ drop (length now - i) (drop i now))) (i + j)
+    → FrontWritten (shortForm n (held t)) before (take i now ++ (part ++ drop (length now - i) (drop i now))) (i + j)
 unfolding shortForm
-sides-written {n} {term} {see} {change} {before} {now} {part} {i} {j} h ts tc first second = record {
-  term = λ t e b.
-      rw (← listing-listed term confidentiality see n t h ts e b, ← listing-listed term integrity change n t h tc e b)
-      (front-part (listing n (irredundant n (marked see))) (listing n (irredundant n (marked change))) before now part i j first second);
-}
+sides-written {n} {t} {see} {change} {before} {now} {part} {i} {j} h b ts tc first second =
+    rw (← listing-listed confidentiality see n t h b ts, ← listing-listed integrity change n t h b tc)
+    (front-part (listing n (irredundant n (marked see))) (listing n (irredundant n (marked change))) before now part i j first second)

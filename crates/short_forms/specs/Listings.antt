@@ -3,15 +3,14 @@
 use mathlib.Core.Path.{_≡_}
 use mathlib.Core.Bool.{Bool, not, _&&_}
 use mathlib.Core.List.{List, _++_}
-use Prim.Native.Nat.{ℕ, _-_, _/_, _%_, _^_, _<_}
+use Prim.Native.Nat.{ℕ, _-_, _/_, _%_, _^_}
 use lib.ListN.{length, getD, drop}
 use Rattle.model.specs.Bytes.{bigEndian}
-use Rattle.model.specs.Answers.{Side, Answer, Outcome}
+use Rattle.model.specs.Answers.{Answer, Outcome}
 use Rattle.model.specs.Answers as answers
 use Rattle.model.specs.Terms.{Term, codes, NamesBelow, member, held}
 use Rattle.model.specs.Grants.{implies, every}
 use Rattle.model.specs.ShortForms.{those, pairs, shortForm}
-use Rattle.words.specs.Evaluation.{heldWord}
 use Rattle.short_forms.specs.declared.ShortForm.{ShortForm}
 use Rattle.short_forms.specs.declared.ShortForm.the-variants.{Written, Refused}
 
@@ -27,10 +26,6 @@ outcomeOf r after = record { answer = answerOf r; buffer = after }
 -- the mark of coalition c in a table of words: bit c mod 64 of word c div 64
 unfoldable pub marked : List ℕ → ℕ → Bool
 marked words c = member (c % 64) (getD words (c / 64) 0)
-
--- of whatever term these bytes are the codes, the first k words tell where it is held on the side
-pub record Tabled (bytes : List ℕ) (s : Side) (words : List ℕ) (k : ℕ) : Type 0 where
-  pub holds : (n : ℕ) (t : Term) → bytes ≡ codes t → NamesBelow n t → (w : ℕ) → w < k → getD words w 0 ≡ heldWord t s w
 
 -- c has the name i as a member, and without it is one of f
 unfoldable pub markedWithout : ℕ → (ℕ → Bool) → ℕ → Bool

@@ -4,34 +4,16 @@ ghost use mathlib.Core.Path.{_≡_};
 ghost use Prim.Native.Nat.{_+_, _*_, _^_, _≤_, _<_};
 ghost use lib.ListN.{length};
 ghost use Rattle.model.specs.Bytes.{bigEndian};
-ghost use Rattle.model.specs.Answers.{confidentiality, integrity};
 ghost use Rattle.model.specs.Extracts.{packed};
 ghost use Rattle.model.specs.ShortForms.{pairs, shorten};
 ghost use Rattle.words.specs.Evaluation.{wordsOf};
-ghost use Rattle.short_forms.specs.Listings.{outcomeOf, marked, markedWithout, Tabled, irredundant, bitsOf, listing, FrontWritten, ShortWritten};
+ghost use Rattle.short_forms.specs.Listings.{outcomeOf, marked, markedWithout, irredundant, bitsOf, listing, FrontWritten, ShortWritten};
 
 pub enum ShortForm {
     // The number of bytes.
     Written(usize),
     // The number of the refusal: 7, 8, or the term's, 1 to 4.
     Refused(u8),
-}
-
-// The term is evaluated here, once: a table of marks for each side, 64 coalitions a word.
-fn evaluate(term: &[u8], n: u64, see: &mut [u64], change: &mut [u64])
-    requires { ⌜ (wordsOf n ≤ length (now see)) × (wordsOf n ≤ length (now change)) ⌝ }
-    ensures { λ _. ⌜ Tabled (now (term .entry)) confidentiality (now (see .exit)) (wordsOf n) ⌝ }
-    ensures { λ _. ⌜ Tabled (now (term .entry)) integrity (now (change .exit)) (wordsOf n) ⌝ }
-{
-    let count = words::word_count(n);
-    let mut w: u64 = 0;
-    while w < count {
-        let held = words::words_of(term, w);
-        let place = w as usize;
-        see[place] = held.see;
-        change[place] = held.change;
-        w += 1;
-    }
 }
 
 // The coalitions of word w that have name i as a member and are marked without it. Without a name below 6 a coalition stands 2^i
@@ -118,14 +100,15 @@ fn list_side(marks: &[u64], n: u64, buffer: &mut [u8]) -> usize
     at
 }
 
-// Writes the short form of an accepted term, see side then change side. The result is the length.
+// Writes the short form of an accepted term, see side then change side. The result is the length. The term is evaluated once: a table of
+// marks for each side, 64 coalitions a word.
 fn write(n: u64, term: &[u8], buffer: &mut [u8]) -> usize
     requires { ⌜ (n ≤ 12) × (16388 ≤ length (now buffer)) ⌝ }
     ensures { λ r. ⌜ ShortWritten n (now (term .entry)) (now (buffer .entry)) (now (buffer .exit)) r ⌝ }
 {
     let mut see = [0u64; 64];
     let mut change = [0u64; 64];
-    evaluate(term, n, &mut see, &mut change);
+    words::evaluate(term, n, &mut see, &mut change);
     let first = list_side(&see, n, buffer);
     let second = list_side(&change, n, &mut buffer[first..]);
     first + second

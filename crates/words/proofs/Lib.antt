@@ -2,4 +2,5 @@
 pub mod Packing
 pub mod Names
 pub mod Steps
+pub mod Tables
 pub mod Searches

@@ -4,7 +4,7 @@ use mathlib.Core.Bool.{Bool, true, false}
 use mathlib.Core.List.{List, _++_}
 use Prim.Native.Nat.{ℕ, _+_, _-_, _*_, _^_, _≤_, _<_, min}
 use lib.Dec.{ltb}
-use lib.ListN.{length, drop}
+use lib.ListN.{length, drop, getD}
 use Rattle.model.specs.Answers.{Side, confidentiality, integrity}
 use Rattle.model.specs.Terms.{Term, codes, NamesBelow, held}
 use Rattle.model.specs.Extracts.{packed}
@@ -36,6 +36,17 @@ pub record Evaluated (bytes : List ℕ) (at w see change next : ℕ) : Type 0 wh
 -- the same of bytes that are one whole term
 pub record EvaluatedWhole (bytes : List ℕ) (w see change next : ℕ) : Type 0 where
   pub term : (n : ℕ) (t : Term) → bytes ≡ codes t → NamesBelow n t → HeldAt t 0 w see change next
+
+-- the first k words of a list are those of the term on the side
+pub record Tabled (t : Term) (s : Side) (k : ℕ) (words : List ℕ) : Type 0 where
+  pub word : (w : ℕ) → w < k → getD words w 0 ≡ heldWord t s w
+
+-- What evaluating the first k words of any bytes leaves in a list that has room for them: of the term that the bytes are, if they are one,
+-- its words on the side; and later words keep their content.
+pub record EvaluatedTo (bytes : List ℕ) (s : Side) (k : ℕ) (before after : List ℕ) : Type 0 where
+  pub term : (n : ℕ) (t : Term) → bytes ≡ codes t → NamesBelow n t → k ≤ length before → Tabled t s k after
+  pub same : length after ≡ length before
+  pub kept : (w : ℕ) → k ≤ w → getD after w 0 ≡ getD before w 0
 
 -- of the k marks f i, f (i + 1), .. the first that is set is number r
 pub record LowestMark (f : ℕ → Bool) (i k r : ℕ) : Type 0 where

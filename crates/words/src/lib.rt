@@ -1,9 +1,10 @@
 // Terms held at 64 coalitions at once (document 01, "Terms"): bit j of word w is coalition 64 * w + j.
 ghost use mathlib.Core.Path.{_≡_};
 ghost use Prim.Native.Nat.{_*_, _<_};
+ghost use Rattle.model.specs.Answers.{confidentiality, integrity};
 ghost use Rattle.model.specs.Terms.{member};
 ghost use Rattle.model.specs.Extracts.{packed};
-ghost use Rattle.words.specs.Evaluation.{coalitionWord, wordsOf, Evaluated, EvaluatedWhole, LowestBit};
+ghost use Rattle.words.specs.Evaluation.{coalitionWord, wordsOf, Evaluated, EvaluatedWhole, EvaluatedTo, LowestBit};
 
 // The word of the strongest party, held nowhere, and that of the weakest, held everywhere.
 const NONE: u64 = 0;
@@ -145,6 +146,22 @@ pub fn word_count(n: u64) -> u64
         return 1 << (n - 6);
     }
     64
+}
+
+// All words of a term of n names on both sides, word w at place w: for what asks for them more than once.
+pub fn evaluate(codes: &[u8], n: u64, see: &mut [u64; 64], change: &mut [u64; 64])
+    ensures { λ _. ⌜ EvaluatedTo (now (codes .entry)) confidentiality (wordsOf n) (now (see .entry)) (now (see .exit)) ⌝ }
+    ensures { λ _. ⌜ EvaluatedTo (now (codes .entry)) integrity (wordsOf n) (now (change .entry)) (now (change .exit)) ⌝ }
+{
+    let count = word_count(n);
+    let mut w: u64 = 0;
+    while w < count {
+        let held = words_of(codes, w);
+        let at = w as usize;
+        see[at] = held.see;
+        change[at] = held.change;
+        w += 1;
+    }
 }
 
 fn wide(x: u32) -> u64

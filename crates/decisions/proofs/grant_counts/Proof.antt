@@ -33,7 +33,7 @@ word c L g h =
     let w = l .loop .w in
     let below : w < wordsOf (a .n) = omega (arith, l .loop .inv .0, d .before .loop-test .taken) in
     let held-d = held-words (a .n) (a .d .now) (g .label) w _ _ _ (d .words-of .ensures) (h .label-read) in
-    counting-word (a .n) L g w _ _ _ _ _ _ _ (c .low-mask .ensures) (h .words .see-word w below) (h .words .change-word w below) held-d
+    counting-word (a .n) L g w _ _ _ _ _ _ _ (c .low-mask .ensures) (h .see-words .word w below) (h .change-words .word w below) held-d
     (c .before .unspoken .ensures (a .n) (g .q) (held (g .label) integrity) (h .q-read) (held-d .change-word))
 
 word-count-requires : tie.Need-word-count-requires Inv-loop μ-loop

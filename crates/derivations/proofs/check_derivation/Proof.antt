@@ -1,13 +1,10 @@
 -- `derivations::check_derivation` meets its contract: the refusals in their order, then the steps. Assumes nothing.
-use Prim.Native.Nat.{ℕ, _+_}
 use native.Mathlib.Omega.{arith}
-use mathlib.Core.Path.{sym, ap, _∙_}
+use mathlib.Core.Path.{sym, _∙_}
 use borrow.Author.Tests.{not-true, not-false}
-use Rattle.model.specs.Answers.{Refused}
-use Rattle.terms.specs.Readings.{termRefusal}
-use Rattle.terms.proofs.Accepted.{refused-term, accepted-term, term-refusal-small}
-use Rattle.ledgers.specs.Readings.{ledgerRefusal}
-use Rattle.ledgers.proofs.Accepted.{accepted-ledger, refused-ledger}
+use Rattle.terms.proofs.Accepted.{accepted-term}
+use Rattle.ledgers.proofs.Accepted.{accepted-ledger}
+use Rattle.decisions.proofs.Asking as asking
 use Rattle.derivations.proofs.Checking.{ledger-refused, label-refused, length-refused, steps-checked, length-most}
 use borrow.Author.Needs.{needs}
 use Rattle.derivations.proofs.check_derivation.Statement.{statement}
@@ -29,7 +26,7 @@ returns : tie.Need-returns
 returns c =
     let g = c .before .enum-told .given in
     let r = c .before .before .before in
-    ap Refused (c .ledger-refusal .ensures ∙ ap ledgerRefusal (g .1)) ∙ sym (ledger-refused _ _ _ (g .0 .0) (refused-ledger _ (g .0 .0) (sym (r .read-ledger .ensures) ∙ g .1)))
+    sym (ledger-refused _ _ _ _ (asking.ledger-refused _ _ _ _ (r .read-ledger .ensures) (g .1) (c .ledger-refusal .ensures)))
 
 read-term-requires : tie.Need-read-term-requires
 read-term-requires c κs = search needs
@@ -45,16 +42,15 @@ term-refusal-requires c κs = search needs
 
 add-t12 : tie.Need-add-t12
 add-t12 c =
-    let t = c .before .before .before in
-    omega (arith, c .term-refusal .ensures ∙ ap termRefusal (t .read-term .ensures), term-refusal-small (t .before .before .reading .given .0 .0) (t .before .before .before .before .before .before .before .before .args .label .now))
+    omega (arith, asking.refusal-small _ _ _ _ (c .before .before .before .read-term .ensures) (c .term-refusal .ensures))
 
 returns-2 : tie.Need-returns-2
 returns-2 c =
     let g = c .before .enum-told3 .given in
     let t = c .before .before .before in
     let l = t .before .before in
-    ap (λ (k : ℕ). Refused (40 + k)) (c .term-refusal .ensures ∙ ap termRefusal (g .1))
-    ∙ sym (label-refused _ _ _ _ _ (accepted-ledger _ _ _ (sym (l .before .before .read-ledger .ensures) ∙ l .reading .given .1)) (g .0 .0) (refused-term _ _ (g .0 .0) (sym (t .read-term .ensures) ∙ g .1)))
+    sym (label-refused _ _ _ _ _ (accepted-ledger _ _ _ (sym (l .before .before .read-ledger .ensures) ∙ l .reading .given .1)) _
+    (asking.term-refused _ _ _ _ (t .read-term .ensures) (c .term-refusal .ensures) _ (g .1)))
 
 length-fits-requires : tie.Need-length-fits-requires
 length-fits-requires c κs = search needs

@@ -1,6 +1,6 @@
 -- `derivations::check_steps` meets its contract. The loop's invariant: the answer for the steps from k on is the answer for all.
 -- Assumes nothing.
-use Prim.Native.Nat.{_+_, _-_, _≤_}
+use Prim.Native.Nat.{_+_, _-_}
 use native.Mathlib.Omega.{arith}
 use mathlib.Core.Path.{_≡_, sym, ap, _∙_}
 use borrow.Author.Needs.{needs}

@@ -2,13 +2,13 @@
 use native.Mathlib.Omega.{arith}
 use mathlib.Core.Path.{refl, sym}
 use Rattle.model.specs.Terms.{member}
-use Rattle.derivations.proofs.Checking.{member-past}
+use Rattle.derivations.proofs.Checking.{word-past}
 use borrow.Author.Needs.{needs}
 use Rattle.derivations.proofs.marked.Statement.{statement}
 use Rattle.derivations.proofs.marked.Tie as tie
 
 returns : tie.Need-returns
-returns c = sym (member-past (c .before .args .k) (c .before .args .marks) (omega arith) (c .if1 .taken))
+returns c = sym (word-past (c .before .args .k) (c .before .args .marks) (omega arith) (c .if1 .taken))
 
 shr-result : tie.Need-shr-result
 shr-result c = search needs

@@ -11,8 +11,6 @@ use Rattle.model.specs.Bytes.{same}
 use Rattle.derivations.proofs.Comparing.{same-lengths, same-more, same-end}
 use Rattle.derivations.proofs.same.Statement.{statement}
 use Rattle.derivations.proofs.same.Tie as tie
-use Rattle.derivations.proofs.same.Reads as reads
-use Rattle.derivations.proofs.same.Lts as lts
 
 abbrev Inv-loop : tie.InvT-loop
 Inv-loop a b i₀ i = (i ≤ length a) × (same (drop i a) (drop i b) ≡ same a b)

@@ -1,5 +1,5 @@
 -- `extracts::extract` meets its contract: the refusals in their order, and then the table. Assumes nothing.
-use Prim.Native.Nat.{ℕ, _+_, _≤_}
+use Prim.Native.Nat.{ℕ}
 use native.Mathlib.Omega.{arith}
 use mathlib.Core.Path.{_≡_, refl, sym, ap, _∙_}
 use mathlib.Core.List.{List}
@@ -7,14 +7,11 @@ use lib.ListN.{length}
 use lib.Seq.{paste}
 use borrow.Author.Needs.{needs}
 use Rattle.model.specs.Questions.{soundUnder}
-use Rattle.terms.specs.Readings.{termRefusal}
-use Rattle.terms.proofs.Accepted.{AcceptedTerm, accepted-term, refused-term, term-refusal-small}
-use Rattle.ledgers.specs.Readings.{ledgerRefusal}
-use Rattle.ledgers.proofs.Accepted.{AcceptedLedger, accepted-ledger, refused-ledger}
+use Rattle.terms.proofs.Accepted.{AcceptedTerm, accepted-term}
+use Rattle.ledgers.proofs.Accepted.{AcceptedLedger, accepted-ledger}
 use Rattle.decisions.specs.Promises.{LedgerOf}
+use Rattle.decisions.proofs.Asking as asking
 use Rattle.extracts.specs.Halves.{Halves}
-use Rattle.extracts.specs.Results.{outcome}
-use Rattle.extracts.specs.declared.Extracted.the-variants.{Refused}
 use Rattle.extracts.proofs.Outcomes.{see-length, change-length, halves-table, size-refused, ledger-refused, label-refused, table-written}
 use Rattle.extracts.proofs.extract.Statement.{statement}
 use Rattle.extracts.proofs.extract.Tie as tie
@@ -54,7 +51,7 @@ label-of : (c : tie.After-enum-told2) → AcceptedTerm (names (known c)) (labelI
 label-of c = accepted-term (names (known c)) (labelIn (sized (known c))) (sym (c .before .before .read-term .ensures) ∙ c .enum-told2 .given .1)
 
 ledger-is : (c : tie.After-known-told) → LedgerOf (ledgerIn (sized c)) (names c) (count c) (ledger-of c .ledger)
-ledger-is c = let a = ledger-of c in record { is = a .is; names = sym (a .names); count = sym (a .count) }
+ledger-is c = asking.ledger-of _ _ _ (ledger-of c)
 
 -- nothing can be refused any more
 abbrev accepted : tie.After-mark-sound → tie.After-enum-told2
@@ -87,8 +84,7 @@ returns-2 : tie.Need-returns-2
 returns-2 c =
     let s = c .before .before .before .before in
     let told = c .before .enum-told .given .1 in
-    ap (λ (r : ℕ). outcome (Refused r) (bufferIn s)) (c .ledger-refusal .ensures ∙ ap ledgerRefusal told)
-    ∙ ledger-refused (ledgerIn s) (labelIn s) (bufferIn s) (fits s) _ (refused-ledger (ledgerIn s) _ (sym (c .before .before .before .read-ledger .ensures) ∙ told))
+    ledger-refused (ledgerIn s) (labelIn s) (bufferIn s) (fits s) _ (asking.ledger-refused _ _ _ _ (c .before .before .before .read-ledger .ensures) told (c .ledger-refusal .ensures))
 
 read-term-requires : tie.Need-read-term-requires
 read-term-requires c κs = search needs
@@ -102,13 +98,8 @@ enum-told-3 c = search needs
 term-refusal-requires : tie.Need-term-refusal-requires
 term-refusal-requires c κs = search needs
 
-refusal-small : (c : tie.After-term-refusal) → c .term-refusal .result ≤ 4
-refusal-small c =
-    let k = c .before .before .before .before in
-    omega (arith, c .term-refusal .ensures ∙ ap termRefusal (c .before .before .before .read-term .ensures), term-refusal-small (names k) (labelIn (sized k)))
-
 add-refusal : tie.Need-add-refusal
-add-refusal c = omega (arith, refusal-small c)
+add-refusal c = omega (arith, asking.refusal-small _ _ _ _ (c .before .before .before .read-term .ensures) (c .term-refusal .ensures))
 
 returns-3 : tie.Need-returns-3
 returns-3 c =
@@ -116,8 +107,8 @@ returns-3 c =
     let s = sized k in
     let l = ledger-of k in
     let told = c .before .enum-told3 .given .1 in
-    ap (λ (r : ℕ). outcome (Refused (40 + r)) (bufferIn s)) (c .term-refusal .ensures ∙ ap termRefusal told)
-    ∙ label-refused (ledgerIn s) (labelIn s) (bufferIn s) (fits s) (l .ledger) (names k) (l .is) (l .names) _ (refused-term (names k) (labelIn s) _ (sym (c .before .before .before .read-term .ensures) ∙ told))
+    label-refused (ledgerIn s) (labelIn s) (bufferIn s) (fits s) (l .ledger) (names k) (l .is) (l .names) _
+    (asking.term-refused _ _ _ _ (c .before .before .before .read-term .ensures) (c .term-refusal .ensures) _ told)
 
 counting-requires : tie.Need-counting-requires
 counting-requires c κs = search needs

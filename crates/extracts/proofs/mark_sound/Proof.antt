@@ -1,18 +1,17 @@
 -- `extracts::mark_sound` meets its contract. The loop's invariant: both halves have the marks of the first w words. Assumes nothing.
-use Prim.Native.Nat.{ℕ, _-_, _≤_, _<_}
+use Prim.Native.Nat.{_-_, _≤_, _<_}
 use native.Mathlib.Omega.{arith}
 use mathlib.Core.Path.{_≡_, ap}
 use lib.ListN.{length}
 use borrow.Author.Needs.{needs}
-use mathlib.Core.List.{List}
 use Rattle.model.specs.Answers.{confidentiality, integrity}
 use Rattle.model.specs.Extracts.{mark}
-use Rattle.model.proofs.Accepted.{names-range}
 use Rattle.words.proofs.Names.{words-few}
 use Rattle.model.specs.Terms.{Term}
 use Rattle.model.specs.Ledgers.{Ledger}
 use Rattle.model.specs.Questions.{soundUnder}
 use Rattle.decisions.specs.Promises.{LedgerOf, countingMarks}
+use Rattle.decisions.proofs.Marks.{names-few}
 use Rattle.extracts.proofs.Filling.{Filled, filled-start, filled-end, turn-length, turn-half}
 use Rattle.extracts.proofs.mark_sound.Statement.{statement}
 use Rattle.extracts.proofs.mark_sound.Tie as tie
@@ -29,9 +28,6 @@ abbrev μ-loop : tie.MeasureT-loop
 -- there are 64 words at most
 few : (c : tie.In-loop Inv-loop μ-loop) → c .before .loop .w < 64
 few c = omega (arith, c .before .before .word-count .ensures, words-few (c .before .before .before .before .args .n))
-
-names-most : {bytes : List ℕ} {n grants : ℕ} {l : Ledger} → LedgerOf bytes n grants l → n ≤ 12
-names-most {bytes} {n} {grants} {l} is = omega (arith, is .names, names-range bytes l (is .is) .1)
 
 word-count-requires : tie.Need-word-count-requires Inv-loop μ-loop
 word-count-requires c κs = search needs
@@ -82,7 +78,7 @@ returns : tie.Need-returns Inv-loop μ-loop
 returns c =
     let l = c .before .loop in
     let n = c .before .before .before .before .args .n in
-    λ g L is m. filled-end n (soundUnder g L) (l .w) (l .see) (l .change) (names-most is) (omega (arith, c .before .before .word-count .ensures)) (l .inv .2 g L is m)
+    λ g L is m. filled-end n (soundUnder g L) (l .w) (l .see) (l .change) (names-few _ _ _ g is) (omega (arith, c .before .before .word-count .ensures)) (l .inv .2 g L is m)
 
 pub mark-sound-spec : {M : Type 1} → statement M
 mark-sound-spec =

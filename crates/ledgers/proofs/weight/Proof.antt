@@ -5,7 +5,7 @@ use native.Mathlib.Nat.{mul-le-mul}
 use native.Mathlib.Omega.{arith}
 use mathlib.Core.Path.{_≡_, refl}
 use lib.Dec.{lit≤}
-use lib.ListN.{take, drop, length-take, length-drop}
+use lib.ListN.{take, length-take, length-drop}
 use Rattle.model.specs.Ledgers.{weighted}
 use Rattle.ledgers.proofs.Sums.{rows-more}
 use Rattle.ledgers.proofs.weight.Statement.{statement}

@@ -3,35 +3,35 @@ use Prim.Native.Nat.{_≤_}
 use native.Mathlib.Omega.{arith}
 use lib.ListN.{length-take, length-drop}
 use lib.Pow.{pow-mono}
+use borrow.Author.Needs.{needs}
 use Rattle.words.proofs.Names.{words-few}
 use Rattle.short_forms.proofs.Sides.{listing-few, sides-written}
-use borrow.Author.Needs.{needs}
 use Rattle.short_forms.proofs.write.Statement.{statement}
 use Rattle.short_forms.proofs.write.Tie as tie
 
+abbrev start : tie.After-evaluate → tie.Start
+start c = c .before .before .before .before .before
+
 -- what one side takes
 few : (c : tie.After-list-side) → c .list-side .result ≤ 8194
-few c = omega (arith, pow-mono (c .before .before .before .before .before .before .before .before .before .before .pre .0), listing-few _ _ (c .list-side .ensures))
-
-slice-aggregate-evaluate : tie.Need-slice-aggregate-evaluate
-slice-aggregate-evaluate c = search needs
-
-slice-aggregate-evaluate-2 : tie.Need-slice-aggregate-evaluate-2
-slice-aggregate-evaluate-2 c = search needs
+few c = omega (arith, pow-mono (start (c .before .before .before) .pre .0), listing-few _ _ (c .list-side .ensures))
 
 evaluate-requires : tie.Need-evaluate-requires
-evaluate-requires c κs = omega (arith, words-few (c .before .before .before .before .args .n))
+evaluate-requires c κs = search needs
 
 slice-aggregate-list-side : tie.Need-slice-aggregate-list-side
-slice-aggregate-list-side c = search needs
+slice-aggregate-list-side c = let tables = c .before .evaluate .ensures in omega (arith, tables .0 .same, tables .1 .same)
 
 list-side-requires : tie.Need-list-side-requires
 list-side-requires c κs =
-    let s = c .before .before .before .before .before .before .before .before .before in
-    omega (arith, pow-mono (s .pre .0), words-few (s .args .n))
+    let e = c .before .before in
+    let s = start e in
+    omega (arith, pow-mono (s .pre .0), words-few (s .args .n), e .evaluate .ensures .0 .same, e .evaluate .ensures .1 .same)
 
 slice-aggregate-list-side-2 : tie.Need-slice-aggregate-list-side-2
-slice-aggregate-list-side-2 c = search needs
+slice-aggregate-list-side-2 c =
+    let tables = c .before .before .before .before .before .before .evaluate .ensures in
+    omega (arith, tables .0 .same, tables .1 .same)
 
 sub-list-side : tie.Need-sub-list-side
 sub-list-side c = omega (arith, few (c .before .before .before))
@@ -44,27 +44,34 @@ part-list-side-end c = search needs
 
 list-side-requires-2 : tie.Need-list-side-requires-2
 list-side-requires-2 c κs =
-    let s = c .before .before .before .before .before .before .before .before .before .before .before .before .before .before in
-    simp (length-take, length-drop) (omega (arith, pow-mono (s .pre .0), words-few (s .args .n), few (c .before .before .before .before)))
+    let first = c .before .before .before .before in
+    let e = first .before .before .before in
+    let s = start e in
+    simp (length-take, length-drop) (omega (arith, pow-mono (s .pre .0), words-few (s .args .n), few first, e .evaluate .ensures .0 .same, e .evaluate .ensures .1 .same))
 
 add-result : tie.Need-add-result
-add-result c = omega (arith, few (c .before .before .before .before .before .before .before), pow-mono (c .before .before .before .before .before .before .before .before .before .before .before .before .before .before .before .before .before .pre .0), listing-few _ _ (c .before .before .list-side2 .ensures))
+add-result c =
+    let first = c .before .before .before .before .before .before .before in
+    omega (arith, few first, pow-mono (start (first .before .before .before) .pre .0), listing-few _ _ (c .before .before .list-side2 .ensures))
 
 same-length : tie.Need-same-length
 same-length c = search needs
 
 returns : tie.Need-returns
 returns c =
-    let tables = c .before .before .before .before .before .before .before .before .before .before .before .before .evaluate .ensures in
-    let first = c .before .before .before .before .before .before .before .list-side .ensures in
-    sides-written (c .before .before .before .before .before .before .before .before .before .before .before .before .before .before .before .before .before .pre .0) (tables .0) (tables .1) first (c .before .before .list-side2 .ensures)
+    let first = c .before .before .before .before .before .before .before in
+    let e = first .before .before .before in
+    let s = start e in
+    let tables = e .evaluate .ensures in
+    record {
+      term = λ t is b. sides-written (s .pre .0) b (tables .0 .term _ t is b (words-few (s .args .n))) (tables .1 .term _ t is b (words-few (s .args .n)))
+          (first .list-side .ensures) (c .before .before .list-side2 .ensures);
+    }
 
 pub write-spec : {M : Type 1} → statement M
 write-spec =
     tie.close
     (tie.spec
-    slice-aggregate-evaluate
-    slice-aggregate-evaluate-2
     evaluate-requires
     slice-aggregate-list-side
     list-side-requires

@@ -1,10 +1,10 @@
 -- `cases::fill` meets its contract: what the loop has passed is filled. Assumes nothing.
-use Prim.Native.Nat.{_+_, _-_, _≤_}
+use Prim.Native.Nat.{_-_, _≤_}
 use native.Mathlib.Omega.{arith}
-use mathlib.Core.Path.{_≡_, _∙_, ap}
+use mathlib.Core.Path.{_≡_}
 use mathlib.Core.List.{_++_}
 use denote.Ref.{now}
-use lib.ListN.{length, set, drop, replicate, length-set}
+use lib.ListN.{length, drop, replicate}
 use borrow.Author.Needs.{needs}
 use Rattle.cases.proofs.Filling.{filled-more, filled-whole}
 use Rattle.cases.proofs.fill.Statement.{statement}

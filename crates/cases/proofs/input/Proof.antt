@@ -1,5 +1,4 @@
 -- `cases::input` meets its contract: an input of a whole record ends within it. Assumes nothing.
-use Prim.Native.Nat.{_<_}
 use native.Mathlib.Omega.{arith}
 use denote.Ref.{now}
 use Rattle.cases.proofs.Inputs.{input-within, field-is}

@@ -1,5 +1,5 @@
 -- `rights::rights_acts_for` meets its contract: the number of what `acts_for` answers. Assumes nothing.
-use mathlib.Core.Path.{_≡_, ap, _∙_}
+use mathlib.Core.Path.{ap, _∙_}
 use Rattle.model.specs.Answers.{number}
 use borrow.Author.Needs.{needs}
 use Rattle.rights.proofs.rights_acts_for.Statement.{statement}

@@ -1,5 +1,5 @@
 -- `rights::rights_check_derivation` meets its contract: the number of what `check_derivation` answers. Assumes nothing.
-use mathlib.Core.Path.{_≡_, ap, _∙_}
+use mathlib.Core.Path.{ap, _∙_}
 use Rattle.model.specs.Answers.{number}
 use borrow.Author.Needs.{needs}
 use Rattle.rights.proofs.rights_check_derivation.Statement.{statement}

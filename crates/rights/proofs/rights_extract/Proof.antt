@@ -1,5 +1,4 @@
 -- `rights::rights_extract` meets its contract: the number and the buffer of what `extract` gives. Assumes nothing.
-use mathlib.Core.Path.{_≡_, refl, ap}
 use native.Mathlib.Omega.{arith}
 use Rattle.model.specs.Answers.{number}
 use Rattle.extracts.specs.Results.{extractAnswer}

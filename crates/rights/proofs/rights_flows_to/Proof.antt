@@ -1,5 +1,5 @@
 -- `rights::rights_flows_to` meets its contract: the number of what `flows_to` answers. Assumes nothing.
-use mathlib.Core.Path.{_≡_, ap, _∙_}
+use mathlib.Core.Path.{ap, _∙_}
 use Rattle.model.specs.Answers.{number}
 use borrow.Author.Needs.{needs}
 use Rattle.rights.proofs.rights_flows_to.Statement.{statement}

@@ -1,5 +1,5 @@
 -- `rights::rights_short_form` meets its contract: the number and the buffer of what `short_form` gives; a length fits in 32 bits. Assumes nothing.
-use mathlib.Core.Path.{_≡_, refl, sym, ap, _∙_}
+use mathlib.Core.Path.{sym, ap, _∙_}
 use native.Mathlib.Omega.{arith}
 use Prim.Native.Nat.{_≤_}
 use Rattle.model.specs.Answers.{number, Outcome}

@@ -299,30 +299,29 @@ static uint32_t judge(const struct grants *counting, const struct term from[2], 
     return yes();
 }
 
+/* Acts-for, or flows-to, which asks the other way round on the see side. */
+static uint32_t ask(bool flows, const uint8_t *ledger, size_t ledger_len, struct term p, struct term q,
+                    struct term label)
+{
+    struct grants grants;
+    unsigned refusal = read_question(ledger, ledger_len, p, q, label, &grants);
+    if (refusal)
+        return refused(refusal);
+    keep_counting(&grants, label);
+    const struct term from[2] = {flows ? q : p, p}, to[2] = {flows ? p : q, q};
+    return judge(&grants, from, to);
+}
+
 uint32_t reference_acts_for(const uint8_t *ledger, size_t ledger_len, const uint8_t *p, size_t p_len,
                             const uint8_t *q, size_t q_len, const uint8_t *label, size_t label_len)
 {
-    struct grants grants;
-    struct term tp = term_at(p, p_len), tq = term_at(q, q_len), tl = term_at(label, label_len);
-    unsigned refusal = read_question(ledger, ledger_len, tp, tq, tl, &grants);
-    if (refusal)
-        return refused(refusal);
-    keep_counting(&grants, tl);
-    const struct term from[2] = {tp, tp}, to[2] = {tq, tq};
-    return judge(&grants, from, to);
+    return ask(false, ledger, ledger_len, term_at(p, p_len), term_at(q, q_len), term_at(label, label_len));
 }
 
 uint32_t reference_flows_to(const uint8_t *ledger, size_t ledger_len, const uint8_t *p, size_t p_len,
                             const uint8_t *q, size_t q_len, const uint8_t *label, size_t label_len)
 {
-    struct grants grants;
-    struct term tp = term_at(p, p_len), tq = term_at(q, q_len), tl = term_at(label, label_len);
-    unsigned refusal = read_question(ledger, ledger_len, tp, tq, tl, &grants);
-    if (refusal)
-        return refused(refusal);
-    keep_counting(&grants, tl);
-    const struct term from[2] = {tq, tp}, to[2] = {tp, tq};
-    return judge(&grants, from, to);
+    return ask(true, ledger, ledger_len, term_at(p, p_len), term_at(q, q_len), term_at(label, label_len));
 }
 
 /* ---- Extract ---- */

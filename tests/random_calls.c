@@ -290,13 +290,19 @@ static void random_ledger(struct source *s, struct ledger *ledger, unsigned n)
 
 /* ---- Damaged ledgers ---- */
 
-static size_t bad_ledger_length(struct source *s, size_t length)
+/* One of eight lengths, or one more or less than this one. */
+static size_t bad_length(struct source *s, const uint16_t lengths[8], size_t length)
 {
-    static const uint16_t lengths[] = {0, 1, 511, 513, 33279, 33281, 33792, 34304};
     unsigned draw = below(s, 12);
     if (draw < 8)
         return lengths[draw];
     return draw < 10 || length == 0 ? length + 1 : length - 1;
+}
+
+static size_t bad_ledger_length(struct source *s, size_t length)
+{
+    static const uint16_t lengths[8] = {0, 1, 511, 513, 33279, 33281, 33792, 34304};
+    return bad_length(s, lengths, length);
 }
 
 /* Bytes that the builder didn't write, in a ledger made longer, are 00. */
@@ -633,11 +639,8 @@ static void random_derivation(struct source *s, struct call *call, unsigned n)
 
 static size_t bad_derivation_length(struct source *s, size_t length)
 {
-    static const uint16_t lengths[] = {0, 1, 135, 137, 8703, 8705, 8840, 8976};
-    unsigned draw = below(s, 12);
-    if (draw < 8)
-        return lengths[draw];
-    return draw < 10 || length == 0 ? length + 1 : length - 1;
+    static const uint16_t lengths[8] = {0, 1, 135, 137, 8703, 8705, 8840, 8976};
+    return bad_length(s, lengths, length);
 }
 
 static void set_derivation_length(struct derivation *d, size_t length)

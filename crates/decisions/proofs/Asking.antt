@@ -16,7 +16,13 @@ use Rattle.ledgers.specs.declared.LedgerReading.{LedgerReading}
 use Rattle.ledgers.specs.declared.LedgerReading.the-variants.{Refused as RefusedLedger}
 use Rattle.ledgers.specs.Readings.{ledgerReading, ledgerRefusal}
 use Rattle.ledgers.proofs.Accepted.{AcceptedLedger, refused-ledger}
-use Rattle.decisions.specs.Promises.{LedgerOf}
+use Rattle.words.specs.AnyBytes.{termIn}
+use Rattle.words.proofs.AnyBytes.{term-in}
+use Rattle.decisions.specs.declared.Question.{Question}
+use Rattle.decisions.specs.Promises.{jobOf, countingIn, soundIn, LedgerOf}
+use Rattle.decisions.specs.Answers.{judgeOf, questionOf}
+use Rattle.decisions.proofs.Accepted.{job-is, names-few, counting-in, sound-in}
+use Rattle.decisions.proofs.Refuting.{judged-under}
 
 -- the number that the code hands on is the reader's refusal
 pub ledger-refused : (bytes : List ℕ) (s : LedgerReading) (k r : ℕ) → s ≡ ledgerReading (readLedger bytes) → s ≡ RefusedLedger k → r ≡ ledgerRefusal s → readLedger bytes ≡ refused r
@@ -33,6 +39,14 @@ module _ (n : ℕ) (bytes : List ℕ) (s : TermReading) (r : ℕ) (a : s ≡ ter
 -- what the ledger reader's answer says is what `counting`, `sound_word` and the questions ask
 pub ledger-of : (bytes : List ℕ) (n grants : ℕ) (a : AcceptedLedger bytes n grants) → LedgerOf bytes n grants (a .ledger)
 ledger-of bytes n grants a = record { is = a .is; names = sym (a .names); count = sym (a .count) }
+
+-- what is judged on bytes that are accepted is what the question answers
+pub judged-asked : (question : Question) (ledger p q label : List ℕ) (n grants marks : ℕ) (l : Ledger) (tp tq L : Term) → LedgerOf ledger n grants l
+    → readTerm n p ≡ accepted tp → readTerm n q ≡ accepted tq → readTerm n label ≡ accepted L → marks ≡ countingIn ledger n grants label
+    → judgeOf question (jobOf n) (soundIn ledger grants marks) (termIn p) (termIn q) ≡ questionOf question l L tp tq
+judged-asked question ledger p q label n grants marks l tp tq L of a b c counted =
+    rw (counted ∙ counting-in ledger n grants l of L label c, job-is n (names-few ledger n grants l of), term-in n p tp a, term-in n q tq b)
+    (judged-under question n l L tp tq _ (of .names) (sound-in ledger n grants l of L))
 
 -- ---- a question whose ledger is refused, or p, q or the label
 module _ (answer : Ledger → Term → Term → Term → Answer) (ledger p q label : List ℕ) where

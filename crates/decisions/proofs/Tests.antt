@@ -1,32 +1,23 @@
 -- Tests of all coalitions of n names, word by word: nothing is marked in any word, or the first word that is not 0 refutes. Assumes nothing.
 use mathlib.Core.Path.{_≡_, sym, ap, _∙_}
 use mathlib.Core.Bool.{Bool, true, false, not, _&&_, _||_}
-use mathlib.Core.List.{List}
 use Prim.Native.Nat.{ℕ, _+_, _-_, _*_, _^_, _≤_}
 use native.Mathlib.Omega.{arith}
 use lib.Bits.{bitAnd, bitOr}
 use lib.Dec.{ltb}
 use borrow.Author.Tests.{lt-ltb, ltb-true}
 use Rattle.model.specs.Answers.{confidentiality, integrity}
-use Rattle.model.specs.Bytes.{accepted}
-use Rattle.model.specs.Terms.{Term, readTerm, held}
+use Rattle.model.specs.Terms.{Term, held}
 use Rattle.model.specs.Grants.{Grant, every, voice}
 use Rattle.model.specs.Extracts.{mark, packed}
 use Rattle.model.proofs.Truth.{clash, and-left, and-right, false-of}
 use Rattle.model.proofs.Search.{every-elim, every-intro}
-use Rattle.model.proofs.Reading.{accepted-codes}
 use Rattle.model.proofs.Bars.{lacks, barsCounting, barsActing}
-use Rattle.words.specs.Evaluation.{heldWord, coalitionWord, wordsOf, HeldAt, EvaluatedWhole}
+use Rattle.words.specs.Evaluation.{heldWord, coalitionWord, wordsOf, WordsAt}
 use Rattle.words.proofs.Packing.{packed-and, packed-or, packed-not, packed-zero, packed-lowest}
 use Rattle.words.proofs.Names.{words-enough}
 use Rattle.words.proofs.Searches.{packed-mark, none-more}
 use Rattle.decisions.specs.Promises.{ClearTo}
-
--- the words of an accepted term
-pub held-words : (n : ℕ) (bytes : List ℕ) (t : Term) (w see change next : ℕ) → EvaluatedWhole bytes w see change next → readTerm n bytes ≡ accepted t → HeldAt t 0 w see change next
-held-words n bytes t w see change next e r =
-    let a = accepted-codes n bytes t .0 r in
-    e .term n t (a .0) (a .1)
 
 -- `a & !b`
 pub packed-lacks : (f g : ℕ → Bool) (i : ℕ) → bitAnd (packed f i 64) (0xFFFF_FFFF_FFFF_FFFF - packed g i 64) ≡ packed (lacks f g) i 64
@@ -59,10 +50,10 @@ module _ (n : ℕ) (f : ℕ → Bool) where
           (ap not (and-right (ltb c (2 ^ n)) (f c) e))))
 
 -- those of a word that don't hold the voice of q, from the words of q
-pub voice-word : (q : Term) (f : ℕ → Bool) (w x qs qc qn : ℕ) → x ≡ packed f (64 * w) 64 → HeldAt q 0 w qs qc qn
+pub voice-word : (q : Term) (f : ℕ → Bool) (w x qs qc : ℕ) → x ≡ packed f (64 * w) 64 → WordsAt (held q) w qs qc
     → bitAnd x (0xFFFF_FFFF_FFFF_FFFF - bitAnd qs qc) ≡ packed (lacks f (voice q integrity)) (64 * w) 64
 unfolding voice
-voice-word q f w x qs qc qn e h =
+voice-word q f w x qs qc e h =
     rw (e, h .see-word, h .change-word)
     (rw (packed-and (held q confidentiality) (held q integrity) (64 * w) 64) (packed-lacks f (voice q integrity) (64 * w)))
 
@@ -75,12 +66,12 @@ none-lacks f g i x e z = sym (packed-zero (lacks f g) i 64 .1 (λ c a b. rw (pac
 abbrev pub barredWord : (mask ls lc ds dc us : ℕ) → ℕ
 barredWord mask ls lc ds dc us = bitAnd mask (bitOr (bitOr (bitAnd ls (0xFFFF_FFFF_FFFF_FFFF - ds)) (bitAnd dc (0xFFFF_FFFF_FFFF_FFFF - lc))) us)
 
-pub counting-word : (n : ℕ) (L : Term) (g : Grant) (w mask ls lc ds dc dn us : ℕ) → mask ≡ coalitionWord n w
-    → ls ≡ heldWord L confidentiality w → lc ≡ heldWord L integrity w → HeldAt (g .label) 0 w ds dc dn
+pub counting-word : (n : ℕ) (L : Term) (g : Grant) (w mask ls lc ds dc us : ℕ) → mask ≡ coalitionWord n w
+    → ls ≡ heldWord L confidentiality w → lc ≡ heldWord L integrity w → WordsAt (held (g .label)) w ds dc
     → us ≡ packed (lacks (held (g .label) integrity) (voice (g .q) integrity)) (64 * w) 64
     → barredWord mask ls lc ds dc us ≡ packed (mark n (barsCounting L g)) (64 * w) 64
 unfolding barsCounting
-counting-word n L g w mask ls lc ds dc dn us m a b d u =
+counting-word n L g w mask ls lc ds dc us m a b d u =
     let i = 64 * w in
     let see : Term → ℕ → Bool = λ t. held t confidentiality in
     let change : Term → ℕ → Bool = λ t. held t integrity in
@@ -94,10 +85,10 @@ counting-word n L g w mask ls lc ds dc dn us m a b d u =
 abbrev pub actingWord : (mask ps pc qs qc : ℕ) → ℕ
 actingWord mask ps pc qs qc = bitAnd mask (bitOr (bitAnd ps (0xFFFF_FFFF_FFFF_FFFF - qs)) (bitAnd pc (0xFFFF_FFFF_FFFF_FFFF - qc)))
 
-pub acting-word : (n : ℕ) (p q : Term) (w mask ps pc pn qs qc qn : ℕ) → mask ≡ coalitionWord n w → HeldAt p 0 w ps pc pn → HeldAt q 0 w qs qc qn
+pub acting-word : (n : ℕ) (p q : Term) (w mask ps pc qs qc : ℕ) → mask ≡ coalitionWord n w → WordsAt (held p) w ps pc → WordsAt (held q) w qs qc
     → actingWord mask ps pc qs qc ≡ packed (mark n (barsActing p q)) (64 * w) 64
 unfolding barsActing
-acting-word n p q w mask ps pc pn qs qc qn m a b =
+acting-word n p q w mask ps pc qs qc m a b =
     let i = 64 * w in
     let see : Term → ℕ → Bool = λ t. held t confidentiality in
     let change : Term → ℕ → Bool = λ t. held t integrity in

@@ -1,17 +1,16 @@
 -- What each case of a question and of an answer stands for in document 01, "Acts-for question" and "Flows-to question".
 -- Assumes nothing: these are definitions.
-use mathlib.Core.Path.{_≡_}
 use mathlib.Core.Bool.{not, _&&_}
 use mathlib.Core.List.{List}
 use Prim.Native.Nat.{ℕ, _^_}
 use lib.Dec.{ltb}
 use Rattle.model.specs.Answers as model
-use Rattle.model.specs.Bytes.{accepted}
-use Rattle.model.specs.Terms.{Term, readTerm, held}
+use Rattle.model.specs.Terms.{Term, held}
 use Rattle.model.specs.Grants.{Marks}
 use Rattle.model.specs.Ledgers.{Ledger}
-use Rattle.model.specs.Questions.{Lowest, nowhere, at, refutes, across, soundUnder, actsForUnder, flowsToUnder}
-use Rattle.decisions.specs.Promises.{LedgerOf, countingMarks}
+use Rattle.model.specs.Questions.{Lowest, nowhere, at, refutes, judge, across, actsForUnder, flowsToUnder}
+use Rattle.words.specs.AnyBytes.{termIn}
+use Rattle.decisions.specs.Promises.{soundIn}
 use Rattle.decisions.specs.declared.Side.{Side}
 use Rattle.decisions.specs.declared.Side.the-variants.{See, Change}
 use Rattle.decisions.specs.declared.Answer.{Answer}
@@ -30,11 +29,6 @@ answerOf Yes = model.Yes
 answerOf (No s c) = model.No (sideOf s) c
 answerOf (Refused r) = model.Refused r
 
--- what the question answers of terms that were read
-abbrev pub questionOf : Question → Ledger → Term → Term → Term → model.Answer
-questionOf ActsFor = actsForUnder
-questionOf FlowsTo = flowsToUnder
-
 -- a coalition that refutes is one of the first and none of the second
 abbrev pub fromOf : Question → Term → Term → Marks
 fromOf ActsFor p q = held p
@@ -44,22 +38,28 @@ abbrev pub toOf : Question → Term → Term → Marks
 toOf ActsFor p q = held q
 toOf FlowsTo p q = across p q
 
+-- what the question answers, S being the sound coalitions
+abbrev pub judgeOf : Question → ℕ → Marks → Term → Term → model.Answer
+judgeOf question n S p q = judge n S (fromOf question p q) (toOf question p q)
+
+-- what it answers of a ledger and a label
+abbrev pub questionOf : Question → Ledger → Term → Term → Term → model.Answer
+questionOf ActsFor = actsForUnder
+questionOf FlowsTo = flowsToUnder
+
 -- of the coalitions of n names, those that refute if they are sound
 abbrev pub opposedOf : Question → ℕ → Term → Term → Marks
 opposedOf question n p q s c = ltb c (2 ^ n) && (fromOf question p q s c && not (toOf question p q s c))
 
--- the coalitions that refute under the label
-abbrev pub refutersOf : Question → Ledger → Term → Term → Term → Marks
-refutersOf question l L p q = refutes (soundUnder l L) (fromOf question p q) (toOf question p q)
+-- the coalitions that refute, S being the sound ones
+abbrev pub refutersOf : Question → Marks → Term → Term → Marks
+refutersOf question S p q = refutes S (fromOf question p q) (toOf question p q)
+
+-- and where the sound ones are those that keep each grant whose bit is set, and p and q are what bytes stand for
+abbrev pub refutersIn : Question → List ℕ → ℕ → ℕ → List ℕ → List ℕ → Marks
+refutersIn question ledger grants marks p q = refutersOf question (soundIn ledger grants marks) (termIn p) (termIn q)
 
 -- the see side's first refuter, else another answer
 abbrev pub seeFirst : Lowest → model.Answer → model.Answer
 seeFirst (at c) other = model.No model.confidentiality c
 seeFirst nowhere other = other
-
--- What a question is judged on: the ledger, the marks of the grants that count under the label, and the two terms.
-pub record Asked (ledger : List ℕ) (n grants marks : ℕ) (p q : List ℕ) (l : Ledger) (L tp tq : Term) : Type 0 where
-  pub ledger-read : LedgerOf ledger n grants l
-  pub counted : marks ≡ countingMarks n L l
-  pub p-read : readTerm n p ≡ accepted tp
-  pub q-read : readTerm n q ≡ accepted tq

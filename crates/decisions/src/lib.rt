@@ -3,21 +3,20 @@ use ledgers::LedgerReading;
 use terms::TermReading;
 ghost use mathlib.Core.Path.{_≡_};
 ghost use mathlib.Core.Bool.{Bool, not, _&&_};
-ghost use Prim.Native.Nat.{ℕ, _*_, _^_, _≤_, _<_};
-ghost use Rattle.model.specs.Bytes.{accepted};
+ghost use Prim.Native.Nat.{ℕ, _*_, _^_, _<_};
 ghost use Rattle.model.specs.Answers.{confidentiality, integrity, number};
-ghost use Rattle.model.specs.Terms.{Term, readTerm};
-ghost use Rattle.model.specs.Grants.{Grant, Marks, actsStatically, voice, counts};
-ghost use Rattle.model.specs.Ledgers.{Ledger, pBytes, qBytes};
-ghost use Rattle.model.specs.Questions.{at, lowest, soundUnder, ask, actsFor, flowsTo};
+ghost use Rattle.model.specs.Terms.{Term};
+ghost use Rattle.model.specs.Grants.{Grant, Marks, actsStatically, voice, counts, keeps};
+ghost use Rattle.model.specs.Questions.{at, lowest, ask, actsFor, flowsTo};
 ghost use Rattle.model.specs.Extracts.{mark, packed};
-ghost use Rattle.model.specs.Derivations.{grantBlock};
-ghost use Rattle.decisions.specs.Promises.{ClearTo, GrantGiven, LedgerOf, countingMarks, WordsOf, keeping, soundOf};
-ghost use Rattle.decisions.specs.Answers.{answerOf, questionOf, opposedOf, refutersOf, seeFirst, Asked};
+ghost use Rattle.words.specs.AnyBytes.{termIn};
+ghost use Rattle.words.specs.Evaluation.{WordsAt};
+ghost use Rattle.decisions.specs.Promises.{jobOf, grantIn, countingIn, soundIn, ClearTo, GrantGiven};
+ghost use Rattle.decisions.specs.Answers.{answerOf, judgeOf, questionOf, opposedOf, refutersIn, seeFirst};
 
 // Those of a word that don't hold the voice of q. Where the word is 0 there is no need of q.
 fn unspoken(q: &[u8], w: u64, change: u64) -> u64
-    ensures { λ r. ⌜ ((n : ℕ) (t : Term) (f : ℕ → Bool) → readTerm n (now (q .entry)) ≡ accepted t → change ≡ packed f (64 * w) 64 → r ≡ packed (λ c. f c && not (voice t integrity c)) (64 * w) 64) ⌝ }
+    ensures { λ r. ⌜ ((f : ℕ → Bool) → change ≡ packed f (64 * w) 64 → r ≡ packed (λ c. f c && not (voice (termIn (now (q .entry))) integrity c)) (64 * w) 64) ⌝ }
 {
     if change == 0 {
         return 0;
@@ -28,7 +27,7 @@ fn unspoken(q: &[u8], w: u64, change: u64) -> u64
 
 // The grant of what q may do, labelled d, counts under the label whose words these are: it is visible and spoken.
 fn grant_counts(see: &[u64; 64], change: &[u64; 64], n: u64, q: &[u8], d: &[u8]) -> bool
-    ensures { λ r. ⌜ ((L : Term) (g : Grant) → GrantGiven n (now (see .entry)) (now (change .entry)) (now (q .entry)) (now (d .entry)) L g → r ≡ counts n L g) ⌝ }
+    ensures { λ r. ⌜ ((L : Term) (g : Grant) → GrantGiven n (now (see .entry)) (now (change .entry)) (now (q .entry)) (now (d .entry)) L g → r ≡ counts (jobOf n) L g) ⌝ }
 {
     let words = words::word_count(n);
     let mut w: u64 = 0;
@@ -49,7 +48,7 @@ fn grant_counts(see: &[u64; 64], change: &[u64; 64], n: u64, q: &[u8], d: &[u8])
 
 // Bit k is set exactly if grant k counts under the label. No ledger has more grants than 64.
 pub fn counting(ledger: &[u8], n: u64, grants: usize, label: &[u8]) -> u64
-    ensures { λ r. ⌜ ((l : Ledger) (L : Term) → LedgerOf (now (ledger .entry)) n grants l → readTerm n (now (label .entry)) ≡ accepted L → r ≡ countingMarks n L l) ⌝ }
+    ensures { λ r. ⌜ r ≡ countingIn (now (ledger .entry)) n grants (now (label .entry)) ⌝ }
 {
     if 64 < grants {
         return 0;
@@ -77,7 +76,7 @@ pub struct Words {
 
 // Those of two words that keep grant k: they hold its q where they hold its p. Where none holds its p there is no need of q.
 fn keep(ledger: &[u8], k: usize, w: u64, of: Words) -> Words
-    ensures { λ r. ⌜ ((n : ℕ) (g : Grant) (f : Marks) → readTerm n (pBytes (grantBlock (now (ledger .entry)) k)) ≡ accepted (g .p) → readTerm n (qBytes (grantBlock (now (ledger .entry)) k)) ≡ accepted (g .q) → WordsOf f w (of .see) (of .change) → WordsOf (keeping f g) w (r .see) (r .change)) ⌝ }
+    ensures { λ r. ⌜ ((f : Marks) → WordsAt f w (of .see) (of .change) → WordsAt (λ s c. f s c && keeps (grantIn (now (ledger .entry)) k) s c) w (r .see) (r .change)) ⌝ }
 {
     let p = words::words_of(ledgers::grant_p(ledger, k), w);
     let see = of.see & p.see;
@@ -92,9 +91,9 @@ fn keep(ledger: &[u8], k: usize, w: u64, of: Words) -> Words
     }
 }
 
-// Those of two words that are sound: they keep every counting grant. It ends where none is left.
+// Those of two words that keep each grant whose bit is set. It ends where none is left.
 fn keep_all(ledger: &[u8], grants: usize, marks: u64, w: u64, of: Words) -> Words
-    ensures { λ r. ⌜ ((n : ℕ) (l : Ledger) (L : Term) (f : Marks) → LedgerOf (now (ledger .entry)) n grants l → marks ≡ countingMarks n L l → WordsOf f w (of .see) (of .change) → WordsOf (soundOf l L f) w (r .see) (r .change)) ⌝ }
+    ensures { λ r. ⌜ ((f : Marks) → WordsAt f w (of .see) (of .change) → WordsAt (λ s c. f s c && soundIn (now (ledger .entry)) grants marks s c) w (r .see) (r .change)) ⌝ }
 {
     let mut kept = of;
     let mut left = marks;
@@ -112,9 +111,9 @@ fn keep_all(ledger: &[u8], grants: usize, marks: u64, w: u64, of: Words) -> Word
     kept
 }
 
-// Word w of the sound coalitions of n names, marks being the grants that count.
+// Word w of the coalitions of n names that keep each grant whose bit is set: the sound ones, where these are the grants that count.
 pub fn sound_word(ledger: &[u8], n: u64, grants: usize, marks: u64, w: u64) -> Words
-    ensures { λ r. ⌜ ((l : Ledger) (L : Term) → LedgerOf (now (ledger .entry)) n grants l → marks ≡ countingMarks n L l → WordsOf (λ s. mark n (soundUnder l L s)) w (r .see) (r .change)) ⌝ }
+    ensures { λ r. ⌜ WordsAt (λ s. mark n (soundIn (now (ledger .entry)) grants marks s)) w (r .see) (r .change) ⌝ }
 {
     let mask = words::low_mask(n, w);
     let all = Words {
@@ -124,9 +123,9 @@ pub fn sound_word(ledger: &[u8], n: u64, grants: usize, marks: u64, w: u64) -> W
     keep_all(ledger, grants, marks, w, all)
 }
 
-// Statically p acts for q, two accepted terms of a job of n names.
+// Statically p acts for q, in a job of n names.
 pub fn acts_statically(n: u64, p: &[u8], q: &[u8]) -> bool
-    ensures { λ r. ⌜ ((tp tq : Term) → n ≤ 12 → readTerm n (now (p .entry)) ≡ accepted tp → readTerm n (now (q .entry)) ≡ accepted tq → r ≡ actsStatically n tp tq) ⌝ }
+    ensures { λ r. ⌜ r ≡ actsStatically (jobOf n) (termIn (now (p .entry))) (termIn (now (q .entry))) ⌝ }
 {
     let words = words::word_count(n);
     let mut w: u64 = 0;
@@ -166,7 +165,7 @@ enum Question {
 
 // Word w of the coalitions of n names that refute, were they sound: those that hold p and not q, and for flows-to, on the see side, q and not p.
 fn opposed(question: Question, n: u64, p: &[u8], q: &[u8], w: u64) -> Words
-    ensures { λ r. ⌜ ((tp tq : Term) → readTerm n (now (p .entry)) ≡ accepted tp → readTerm n (now (q .entry)) ≡ accepted tq → WordsOf (opposedOf question n tp tq) w (r .see) (r .change)) ⌝ }
+    ensures { λ r. ⌜ WordsAt (opposedOf question n (termIn (now (p .entry))) (termIn (now (q .entry)))) w (r .see) (r .change) ⌝ }
 {
     let mask = words::low_mask(n, w);
     let from = words::words_of(p, w);
@@ -204,7 +203,7 @@ fn judge_see(
     from: u64,
     other: Answer,
 ) -> Answer
-    ensures { λ r. ⌜ ((l : Ledger) (L tp tq : Term) → Asked (now (ledger .entry)) n grants marks (now (p .entry)) (now (q .entry)) l L tp tq → ClearTo n (refutersOf question l L tp tq confidentiality) from → answerOf r ≡ seeFirst (lowest (refutersOf question l L tp tq confidentiality) (2 ^ n)) (answerOf other)) ⌝ }
+    ensures { λ r. ⌜ (ClearTo (jobOf n) (refutersIn question (now (ledger .entry)) grants marks (now (p .entry)) (now (q .entry)) confidentiality) from → answerOf r ≡ seeFirst (lowest (refutersIn question (now (ledger .entry)) grants marks (now (p .entry)) (now (q .entry)) confidentiality) (2 ^ jobOf n)) (answerOf other)) ⌝ }
 {
     let words = words::word_count(n);
     let mut w = from;
@@ -234,7 +233,7 @@ fn judge(
     p: &[u8],
     q: &[u8],
 ) -> Answer
-    ensures { λ r. ⌜ ((l : Ledger) (L tp tq : Term) → Asked (now (ledger .entry)) n grants marks (now (p .entry)) (now (q .entry)) l L tp tq → answerOf r ≡ questionOf question l L tp tq) ⌝ }
+    ensures { λ r. ⌜ answerOf r ≡ judgeOf question (jobOf n) (soundIn (now (ledger .entry)) grants marks) (termIn (now (p .entry))) (termIn (now (q .entry))) ⌝ }
 {
     let words = words::word_count(n);
     let mut w: u64 = 0;

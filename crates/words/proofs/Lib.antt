@@ -1,6 +1,7 @@
 -- What the proofs of several functions use, and what other crates cite.
 pub mod Packing
 pub mod Names
+pub mod AnyBytes
 pub mod Steps
 pub mod Tables
 pub mod Searches

@@ -1,13 +1,15 @@
 -- Where terms are held (document 01, "Terms"), 64 coalitions in a word: bit j of word w is coalition 64 × w + j. Assumes nothing: these are definitions.
 use mathlib.Core.Path.{_≡_}
 use mathlib.Core.Bool.{Bool, true, false}
-use mathlib.Core.List.{List, _++_}
+use mathlib.Core.List.{List}
 use Prim.Native.Nat.{ℕ, _+_, _-_, _*_, _^_, _≤_, _<_, min}
 use lib.Dec.{ltb}
 use lib.ListN.{length, drop, getD}
 use Rattle.model.specs.Answers.{Side, confidentiality, integrity}
-use Rattle.model.specs.Terms.{Term, codes, NamesBelow, held}
+use Rattle.model.specs.Terms.{Term, held}
+use Rattle.model.specs.Grants.{Marks}
 use Rattle.model.specs.Extracts.{packed}
+use Rattle.words.specs.AnyBytes.{taken, termIn}
 
 -- word w of a term on a side
 abbrev pub heldWord : Term → Side → ℕ → ℕ
@@ -21,30 +23,23 @@ coalitionWord n w = packed (λ c. ltb c (2 ^ n)) (64 * w) 64
 abbrev pub wordsOf : ℕ → ℕ
 wordsOf n = 2 ^ (min n 12 - 6)
 
--- word w of the term t on both sides, and the place after its codes, which start at `at`
-pub record HeldAt (t : Term) (at w see change next : ℕ) : Type 0 where
-  pub see-word : see ≡ heldWord t confidentiality w
-  pub change-word : change ≡ heldWord t integrity w
-  pub past : next ≡ at + length (codes t)
+-- Word w of a set of coalitions on each side.
+pub record WordsAt (f : Marks) (w see change : ℕ) : Type 0 where
+  pub see-word : see ≡ packed (f confidentiality) (64 * w) 64
+  pub change-word : change ≡ packed (f integrity) (64 * w) 64
 
--- What evaluating at a place of any bytes answers: of the term whose codes stand there, if one does, its words and the place after it;
--- and never a place before `at`, so that the codes left fall.
+-- What evaluating at a place of any bytes answers: word w of the term that the bytes from there on stand for, and the place after it.
 pub record Evaluated (bytes : List ℕ) (at w see change next : ℕ) : Type 0 where
-  pub forward : at ≤ next
-  pub term : (n : ℕ) (t : Term) (rest : List ℕ) → drop at bytes ≡ codes t ++ rest → NamesBelow n t → HeldAt t at w see change next
-
--- the same of bytes that are one whole term
-pub record EvaluatedWhole (bytes : List ℕ) (w see change next : ℕ) : Type 0 where
-  pub term : (n : ℕ) (t : Term) → bytes ≡ codes t → NamesBelow n t → HeldAt t 0 w see change next
+  pub words : WordsAt (held (termIn (drop at bytes))) w see change
+  pub past : next ≡ at + taken (drop at bytes) .size
 
 -- the first k words of a list are those of the term on the side
 pub record Tabled (t : Term) (s : Side) (k : ℕ) (words : List ℕ) : Type 0 where
   pub word : (w : ℕ) → w < k → getD words w 0 ≡ heldWord t s w
 
--- What evaluating the first k words of any bytes leaves in a list that has room for them: of the term that the bytes are, if they are one,
--- its words on the side; and later words keep their content.
-pub record EvaluatedTo (bytes : List ℕ) (s : Side) (k : ℕ) (before after : List ℕ) : Type 0 where
-  pub term : (n : ℕ) (t : Term) → bytes ≡ codes t → NamesBelow n t → k ≤ length before → Tabled t s k after
+-- What evaluating the first k words leaves in a list: where it has room for them, those of the term on the side; and later words keep their content.
+pub record EvaluatedTo (t : Term) (s : Side) (k : ℕ) (before after : List ℕ) : Type 0 where
+  pub table : k ≤ length before → Tabled t s k after
   pub same : length after ≡ length before
   pub kept : (w : ℕ) → k ≤ w → getD after w 0 ≡ getD before w 0
 

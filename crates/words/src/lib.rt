@@ -4,7 +4,8 @@ ghost use Prim.Native.Nat.{_*_, _<_};
 ghost use Rattle.model.specs.Answers.{confidentiality, integrity};
 ghost use Rattle.model.specs.Terms.{member};
 ghost use Rattle.model.specs.Extracts.{packed};
-ghost use Rattle.words.specs.Evaluation.{coalitionWord, wordsOf, Evaluated, EvaluatedWhole, EvaluatedTo, LowestBit};
+ghost use Rattle.words.specs.AnyBytes.{termIn};
+ghost use Rattle.words.specs.Evaluation.{coalitionWord, wordsOf, Evaluated, EvaluatedTo, LowestBit};
 
 // The word of the strongest party, held nowhere, and that of the weakest, held everywhere.
 const NONE: u64 = 0;
@@ -35,7 +36,8 @@ pub struct Held {
     pub change: u64,
 }
 
-// Word w of the term whose codes start at `at`. Bytes that are no term are for the term reader to refuse; the walk ends on them too.
+// Word w of the term that the bytes from `at` on stand for. Bytes that are no term are for the term reader to refuse: here what is no code, or is
+// missing, is held nowhere.
 pub fn hold(codes: &[u8], at: usize, w: u64) -> Held
     ensures { λ r. ⌜ Evaluated (now (codes .entry)) at w (r .see) (r .change) (r .next) ⌝ }
 {
@@ -111,7 +113,7 @@ pub fn hold(codes: &[u8], at: usize, w: u64) -> Held
 
 // Word w of a whole term.
 pub fn words_of(codes: &[u8], w: u64) -> Held
-    ensures { λ r. ⌜ EvaluatedWhole (now (codes .entry)) w (r .see) (r .change) (r .next) ⌝ }
+    ensures { λ r. ⌜ Evaluated (now (codes .entry)) 0 w (r .see) (r .change) (r .next) ⌝ }
 {
     hold(codes, 0, w)
 }
@@ -150,8 +152,8 @@ pub fn word_count(n: u64) -> u64
 
 // All words of a term of n names on both sides, word w at place w: for what asks for them more than once.
 pub fn evaluate(codes: &[u8], n: u64, see: &mut [u64; 64], change: &mut [u64; 64])
-    ensures { λ _. ⌜ EvaluatedTo (now (codes .entry)) confidentiality (wordsOf n) (now (see .entry)) (now (see .exit)) ⌝ }
-    ensures { λ _. ⌜ EvaluatedTo (now (codes .entry)) integrity (wordsOf n) (now (change .entry)) (now (change .exit)) ⌝ }
+    ensures { λ _. ⌜ EvaluatedTo (termIn (now (codes .entry))) confidentiality (wordsOf n) (now (see .entry)) (now (see .exit)) ⌝ }
+    ensures { λ _. ⌜ EvaluatedTo (termIn (now (codes .entry))) integrity (wordsOf n) (now (change .entry)) (now (change .exit)) ⌝ }
 {
     let count = word_count(n);
     let mut w: u64 = 0;

@@ -3,7 +3,7 @@ use native.Mathlib.Omega.{arith}
 use mathlib.Core.Path.{sym, _∙_}
 use Rattle.terms.proofs.Accepted.{AcceptedTerm, accepted-term}
 use Rattle.ledgers.proofs.Accepted.{AcceptedLedger, accepted-ledger}
-use Rattle.decisions.proofs.Asking.{ledger-of, ledger-refused, term-refused, refusal-small, ask-ledger, ask-p, ask-q, ask-label, ask-answer}
+use Rattle.decisions.proofs.Asking.{ledger-of, judged-asked, ledger-refused, term-refused, refusal-small, ask-ledger, ask-p, ask-q, ask-label, ask-answer}
 use borrow.Author.Needs.{needs}
 use Rattle.decisions.proofs.ask.Statement.{statement}
 use Rattle.decisions.proofs.ask.Tie as tie
@@ -120,9 +120,9 @@ returns-5 c =
     let tp = first p in
     let tq = second q in
     let L = third d in
-    let read = ledger-of _ _ _ l in
-    c .judge .ensures (l .ledger) (L .term) (tp .term) (tq .term)
-    record { ledger-read = read; counted = c .before .counting .ensures (l .ledger) (L .term) read (L .is); p-read = tp .is; q-read = tq .is }
+    let a = p .before .before .before .before .before .before .before .before .before .before .before .args in
+    c .judge .ensures
+    ∙ judged-asked (a .question) _ _ _ _ _ _ _ (l .ledger) (tp .term) (tq .term) (L .term) (ledger-of _ _ _ l) (tp .is) (tq .is) (L .is) (c .before .counting .ensures)
     ∙ ask-answer _ _ _ _ _ (l .ledger) _ (l .is) (l .names) (tp .term) (tp .is) (tq .term) (tq .is) (L .term) (L .is)
 
 pub ask-spec : {M : Type 1} → statement M

@@ -1,36 +1,34 @@
 -- `decisions::counting` meets its contract. The loop's invariant: the marks of the grants from k on. Assumes nothing.
-use Prim.Native.Nat.{_-_, _≤_}
+use Prim.Native.Nat.{_-_, _≤_, _<_}
 use native.Mathlib.Omega.{arith}
-use mathlib.Core.Path.{_≡_, sym, _∙_}
+use mathlib.Core.Path.{_≡_, _∙_}
 use borrow.Author.Needs.{needs}
-use Rattle.model.specs.Bytes.{accepted}
-use Rattle.model.specs.Terms.{Term, readTerm}
-use Rattle.model.specs.Grants.{counts}
-use Rattle.model.specs.Ledgers.{Ledger}
+use borrow.Author.Tests.{lt-ltb, le-ltb}
 use Rattle.model.specs.Extracts.{packed}
-use Rattle.model.specs.Derivations.{ofGrant}
-use Rattle.model.proofs.Reading.{accepted-codes}
-use Rattle.model.proofs.Prefixes.{ofGrant-getD}
+use Rattle.words.specs.AnyBytes.{termIn}
 use Rattle.words.proofs.Names.{words-few}
-use Rattle.decisions.specs.Promises.{LedgerOf}
-use Rattle.decisions.proofs.Marks.{noGrant, grantAt, marks-none, marks-more, grants-few, grant-given}
+use Rattle.decisions.specs.Promises.{grantIn, countsIn, countingIn}
+use Rattle.decisions.proofs.Marks.{marks-none, marks-more}
 use Rattle.decisions.proofs.counting.Statement.{statement}
 use Rattle.decisions.proofs.counting.Tie as tie
 
 abbrev Inv-loop : tie.InvT-loop
-Inv-loop ledger n grants label see change marks₀ k₀ marks k = (k ≤ grants) × (grants ≤ 64) × ((l : Ledger) (L : Term) → LedgerOf ledger n grants l → readTerm n label ≡ accepted L → marks ≡ packed (ofGrant (counts n L) (l .grants)) k (64 - k))
+Inv-loop ledger n grants label see change marks₀ k₀ marks k = (k ≤ grants) × (grants ≤ 64) × (marks ≡ packed (countsIn ledger n grants label) k (64 - k))
 
 abbrev μ-loop : tie.MeasureT-loop
 μ-loop ledger n grants label see change marks₀ k₀ marks k = k
 
 returns : tie.Need-returns Inv-loop μ-loop
-returns c l L h e = absurd (omega (arith, c .if1 .taken, grants-few _ _ _ l h))
+unfolding countingIn
+returns c = rw (lt-ltb 64 _ (c .if1 .taken))
 
 evaluate-requires : tie.Need-evaluate-requires Inv-loop μ-loop
 evaluate-requires c κs = tt
 
 loop-holds : tie.Need-loop-holds Inv-loop μ-loop
-loop-holds c = (omega arith, omega arith, λ l L h e. marks-none (counts _ L) (l .grants) _ (h .count))
+loop-holds c =
+    let a = c .before .before .before .before .before .before .args in
+    (omega arith, omega arith, marks-none (countsIn (a .ledger .now) (a .n) (a .grants) (a .label .now)) _ (λ k l. rw (le-ltb k (a .grants) l)))
 
 sub-k : tie.Need-sub-k Inv-loop μ-loop
 sub-k c = omega arith
@@ -58,20 +56,26 @@ loop-again c =
     let i = l .loop .inv in
     let k = l .loop .k - 1 in
     let tables = l .before .evaluate .ensures in
-    let room = words-few (a .n) in (
+    let room = words-few (a .n) in
+    let below : k < a .grants = omega arith in (
       omega arith,
       i .1,
-      λ book L h e. let label = accepted-codes (a .n) (a .label .now) L .0 e in
-          marks-more (ofGrant (counts (a .n) L) (book .grants)) (l .loop .k) _ _ (q .before .before .loop-test .taken) (omega arith) (i .2 book L h e)
-          (c .grant-counts .ensures L (grantAt book k)
-          (grant-given _ _ _ book h L _ _ _ _ _ (omega arith) (tables .0 .term _ L (label .0) (label .1) room) (tables .1 .term _ L (label .0) (label .1) room) (q .before .grant-q .ensures) (q .grant-label .ensures))
-          ∙ sym (ofGrant-getD (counts (a .n) L) (book .grants) k noGrant (omega (arith, h .count)))),
+      marks-more (countsIn (a .ledger .now) (a .n) (a .grants) (a .label .now)) (l .loop .k) _ _ (q .before .before .loop-test .taken) (omega arith) (i .2)
+          (c .grant-counts .ensures (termIn (a .label .now)) (grantIn (a .ledger .now) k)
+          (record {
+            see-words = tables .0 .table room;
+            change-words = tables .1 .table room;
+            q-is = rw (q .before .grant-q .ensures);
+            label-is = rw (q .grant-label .ensures);
+          })
+          ∙ rw (lt-ltb k (a .grants) below)),
     )
 
 returns-2 : tie.Need-returns-2 Inv-loop μ-loop
-returns-2 c l L h e =
+unfolding countingIn
+returns-2 c =
     let k : c .before .loop .k ≡ 0 = omega arith in
-    rw k at (c .before .loop .inv .2 l L h e)
+    rw (le-ltb 64 _ (c .before .loop .inv .1)) (rw k at (c .before .loop .inv .2))
 
 pub counting-spec : {M : Type 1} → statement M
 counting-spec =

@@ -8,15 +8,15 @@ use Rattle.model.specs.Terms.{Term, held}
 use Rattle.model.specs.Grants.{Grant}
 use Rattle.model.specs.Extracts.{mark, packed}
 use Rattle.model.proofs.Bars.{barsCounting, counts-bars}
-use Rattle.words.specs.Evaluation.{wordsOf}
-use Rattle.words.proofs.Names.{words-few}
-use Rattle.decisions.specs.Promises.{ClearTo, GrantGiven}
-use Rattle.decisions.proofs.Tests.{clear-none, clear-more, clear-all, clear-not, held-words, barredWord, counting-word}
+use Rattle.words.specs.Evaluation.{wordsOf, WordsAt}
+use Rattle.words.proofs.Names.{words-few, mask-few, count-few}
+use Rattle.decisions.specs.Promises.{jobOf, ClearTo, GrantGiven}
+use Rattle.decisions.proofs.Tests.{clear-none, clear-more, clear-all, clear-not, barredWord, counting-word}
 use Rattle.decisions.proofs.grant_counts.Statement.{statement}
 use Rattle.decisions.proofs.grant_counts.Tie as tie
 
 abbrev Inv-loop : tie.InvT-loop
-Inv-loop see change n q d words w₀ w = (words ≡ wordsOf n) × (w ≤ words) × ((L : Term) (g : Grant) → GrantGiven n see change q d L g → ClearTo n (barsCounting L g) w)
+Inv-loop see change n q d words w₀ w = (words ≡ wordsOf n) × (w ≤ words) × ((L : Term) (g : Grant) → GrantGiven n see change q d L g → ClearTo (jobOf n) (barsCounting L g) w)
 
 abbrev μ-loop : tie.MeasureT-loop
 μ-loop see change n q d words w₀ w = words - w
@@ -25,16 +25,17 @@ abbrev μ-loop : tie.MeasureT-loop
 word : (c : tie.After-low-mask Inv-loop μ-loop) → let d = c .before .before .before .before .before .before in let l = d .before .before in let a = l .before .before .before .before .args in (L : Term) (g : Grant)
     → GrantGiven (a .n) (a .see .now) (a .change .now) (a .q .now) (a .d .now) L g
     → barredWord (c .low-mask .result) (getD (a .see .now) (l .loop .w) 0) (getD (a .change .now) (l .loop .w) 0) (d .words-of .result .see) (d .words-of .result .change) (c .before .unspoken .result)
-    ≡ packed (mark (a .n) (barsCounting L g)) (64 * l .loop .w) 64
+    ≡ packed (mark (jobOf (a .n)) (barsCounting L g)) (64 * l .loop .w) 64
 word c L g h =
     let d = c .before .before .before .before .before .before in
     let l = d .before .before in
     let a = l .before .before .before .before .args in
     let w = l .loop .w in
     let below : w < wordsOf (a .n) = omega (arith, l .loop .inv .0, d .before .loop-test .taken) in
-    let held-d = held-words (a .n) (a .d .now) (g .label) w _ _ _ (d .words-of .ensures) (h .label-read) in
-    counting-word (a .n) L g w _ _ _ _ _ _ _ (c .low-mask .ensures) (h .see-words .word w below) (h .change-words .word w below) held-d
-    (c .before .unspoken .ensures (a .n) (g .q) (held (g .label) integrity) (h .q-read) (held-d .change-word))
+    let few : w < 64 = omega (arith, words-few (a .n)) in
+    let label : WordsAt (held (g .label)) w (d .words-of .result .see) (d .words-of .result .change) = rw (h .label-is) (d .words-of .ensures .words) in
+    counting-word (jobOf (a .n)) L g w _ _ _ _ _ _ (c .low-mask .ensures ∙ mask-few (a .n) w few) (h .see-words .word w below) (h .change-words .word w below) label
+    (rw (h .q-is) (c .before .unspoken .ensures (held (g .label) integrity) (label .change-word)))
 
 word-count-requires : tie.Need-word-count-requires Inv-loop μ-loop
 word-count-requires c κs = tt
@@ -66,7 +67,7 @@ low-mask-requires c κs = tt
 returns : tie.Need-returns Inv-loop μ-loop
 returns c L g h =
     let a = c .before .before .before .before .before .before .before .before .before .before .before .before .before .args in
-    clear-not (a .n) (barsCounting L g) _ _ (word (c .before) L g h) (c .if1 .taken) ∙ sym (counts-bars (a .n) L g)
+    clear-not (jobOf (a .n)) (barsCounting L g) _ _ (word (c .before) L g h) (c .if1 .taken) ∙ sym (counts-bars (jobOf (a .n)) L g)
 
 add-w : tie.Need-add-w Inv-loop μ-loop
 add-w c = omega (arith, words-few (c .before .before .before .before .before .before .before .before .before .before .before .before .before .args .n))
@@ -83,8 +84,8 @@ returns-2 : tie.Need-returns-2 Inv-loop μ-loop
 returns-2 c L g h =
     let l = c .before .loop in
     let a = c .before .before .before .before .before .args in
-    let all : l .w ≡ wordsOf (a .n) = omega arith in
-    clear-all (a .n) (barsCounting L g) (h .names-most) (subst (ClearTo (a .n) (barsCounting L g)) all (l .inv .2 L g h)) ∙ sym (counts-bars (a .n) L g)
+    let all : l .w ≡ wordsOf (jobOf (a .n)) = omega (arith, count-few (a .n)) in
+    clear-all (jobOf (a .n)) (barsCounting L g) (omega arith) (subst (ClearTo (jobOf (a .n)) (barsCounting L g)) all (l .inv .2 L g h)) ∙ sym (counts-bars (jobOf (a .n)) L g)
 
 pub grant-counts-spec : {M : Type 1} → statement M
 grant-counts-spec =

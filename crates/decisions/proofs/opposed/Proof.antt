@@ -1,6 +1,5 @@
 -- `decisions::opposed` meets its contract. Assumes nothing.
 use borrow.Author.Needs.{needs}
-use Rattle.decisions.proofs.Tests.{held-words}
 use Rattle.decisions.proofs.Refuting.{acts-words, flows-words}
 use Rattle.decisions.proofs.opposed.Statement.{statement}
 use Rattle.decisions.proofs.opposed.Tie as tie
@@ -21,18 +20,16 @@ enum-told-2 : tie.Need-enum-told-2
 enum-told-2 c = search needs
 
 returns : tie.Need-returns
-returns c tp tq e f =
+returns c =
     let d = c .before .before .before .before .before .before in
     rw (c .before .before .enum-told .given .1)
-    (acts-words _ tp tq _ _ _ _ _ _ _ _ (d .before .before .low-mask .ensures)
-    (held-words _ _ tp _ _ _ _ (d .before .words-of .ensures) e) (held-words _ _ tq _ _ _ _ (d .words-of2 .ensures) f))
+    (acts-words _ _ _ _ _ _ _ _ _ (d .before .before .low-mask .ensures) (d .before .words-of .ensures .words) (d .words-of2 .ensures .words))
 
 returns-2 : tie.Need-returns-2
-returns-2 c tp tq e f =
+returns-2 c =
     let d = c .before .before .before .before .before .before in
     rw (c .before .before .enum-told2 .given .1)
-    (flows-words _ tp tq _ _ _ _ _ _ _ _ (d .before .before .low-mask .ensures)
-    (held-words _ _ tp _ _ _ _ (d .before .words-of .ensures) e) (held-words _ _ tq _ _ _ _ (d .words-of2 .ensures) f))
+    (flows-words _ _ _ _ _ _ _ _ _ (d .before .before .low-mask .ensures) (d .before .words-of .ensures .words) (d .words-of2 .ensures .words))
 
 pub opposed-spec : {M : Type 1} → statement M
 opposed-spec =

@@ -14,10 +14,10 @@ keep-all-requires c κs = search needs
 
 returns : tie.Need-returns
 unfolding mark
-returns c l L h m =
+returns c =
     let mask = c .before .low-mask .ensures in
     let n = c .before .before .before .args .n in
-    c .keep-all .ensures n l L (λ s c. ltb c (2 ^ n)) h m record { see-word = mask; change-word = mask }
+    c .keep-all .ensures (λ s c. ltb c (2 ^ n)) record { see-word = mask; change-word = mask }
 
 pub sound-word-spec : {M : Type 1} → statement M
 sound-word-spec = tie.close (tie.spec low-mask-requires keep-all-requires returns)

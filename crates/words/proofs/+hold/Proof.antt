@@ -41,13 +41,13 @@ module _ (t : ℕ) where
   hold-hold-requires c κs = (omega arith, tt)
 
   hold-hold-requires-2 : lts.Need-hold-requires-2 claims here hold.Post
-  hold-hold-requires-2 c κs = (omega (arith, c .hold .ensures .forward), tt)
+  hold-hold-requires-2 c κs = (omega (arith, c .hold .ensures .past), tt)
 
   hold-hold-requires-3 : lts.Need-hold-requires-3 claims here hold.Post
   hold-hold-requires-3 c κs = (omega arith, tt)
 
   hold-hold-requires-4 : lts.Need-hold-requires-4 claims here hold.Post
-  hold-hold-requires-4 c κs = (omega (arith, c .hold3 .ensures .forward), tt)
+  hold-hold-requires-4 c κs = (omega (arith, c .hold3 .ensures .past), tt)
 
   hold-hold-requires-5 : lts.Need-hold-requires-5 claims here hold.Post
   hold-hold-requires-5 c κs = (omega arith, tt)

@@ -1,0 +1,67 @@
+-- Laws of the term that any bytes stand for: code by code, and that the bytes of a term stand for it. Assumes nothing.
+use mathlib.Core.Path.{_≡_, refl, sym, ap, _∙_}
+use mathlib.Core.List.{List, [], _∷_, _++_, append-assoc, append-nil}
+use Prim.Native.Nat.{ℕ, zero, suc, _≤_}
+use native.Mathlib.Omega.{arith}
+use lib.ListN.{length, drop, length-append, length-drop}
+use lib.Seq.{drop-append-seam}
+use Rattle.model.specs.Bytes.{accepted}
+use Rattle.model.specs.Terms.{Term, name, top, bottom, conj, disj, project, projectCode, Code, whole, one, two, none, codeOf, codes, NamesBelow, readTerm}
+use Rattle.model.proofs.Reading.{code-name, code-project, accepted-codes}
+use Rattle.words.specs.AnyBytes.{Taken, takeParts, takeWithin, taken, termIn}
+
+-- two takers of parts that agree on lists that are no longer than cs
+parts-same : (cs : List ℕ) (a b : List ℕ → Taken) → ((ds : List ℕ) → length ds ≤ length cs → a ds ≡ b ds) → (m : Code) → takeParts a m cs ≡ takeParts b m cs
+parts-same cs a b same (whole t) = refl
+parts-same cs a b same (one f) = rw (same cs (omega arith))
+parts-same cs a b same (two f) = rw (same cs (omega arith), same (drop (b cs .size) cs) (omega (arith, length-drop (b cs .size) cs)))
+parts-same cs a b same none = refl
+
+-- any bound that is at least the number of bytes gives the same
+within-enough : (k j : ℕ) (cs : List ℕ) → length cs ≤ k → length cs ≤ j → takeWithin k cs ≡ takeWithin j cs
+unfolding takeWithin
+within-enough zero zero cs h i = refl
+within-enough zero (suc j) [] h i = refl
+within-enough zero (suc j) (c ∷ cs) h i = absurd (omega arith)
+within-enough (suc k) zero [] h i = refl
+within-enough (suc k) zero (c ∷ cs) h i = absurd (omega arith)
+within-enough (suc k) (suc j) [] h i = refl
+within-enough (suc k) (suc j) (c ∷ cs) h i =
+    parts-same cs (takeWithin k) (takeWithin j) (λ ds l. within-enough k j ds (omega arith) (omega arith)) (codeOf 12 c)
+
+-- how bytes are taken, with no bound in sight
+pub taken-none : taken [] ≡ record { term = top; size = 0 }
+unfolding takeWithin
+taken-none = refl
+
+pub taken-step : (c : ℕ) (cs : List ℕ) → taken (c ∷ cs) ≡ takeParts taken (codeOf 12 c) cs
+unfolding takeWithin
+taken-step c cs = parts-same cs (takeWithin (length cs)) taken (λ ds l. within-enough (length cs) (length ds) ds l (omega arith)) (codeOf 12 c)
+
+-- a term that takes all of its codes
+abbrev pub wholly : Term → Taken
+wholly t = record { term = t; size = length (codes t) }
+
+two-codes : (f : Term → Term → Term) (p q : Term) (rest : List ℕ)
+    → taken (codes p ++ (codes q ++ rest)) ≡ wholly p → taken (codes q ++ rest) ≡ wholly q
+    → takeParts taken (two f) ((codes p ++ codes q) ++ rest) ≡ record { term = f p q; size = suc (length (codes p ++ codes q)) }
+two-codes f p q rest a b =
+    rw (append-assoc, a, drop-append-seam, b, length-append)
+
+-- The codes of a term stand for it, whatever follows.
+pub taken-codes : (n : ℕ) (t : Term) (rest : List ℕ) → NamesBelow n t → taken (codes t ++ rest) ≡ wholly t
+unfolding codes NamesBelow codeOf
+taken-codes n (name i) rest h = taken-step i rest ∙ rw (code-name 12 i (h .0) (h .0))
+taken-codes n top rest h = taken-step 0x20 rest
+taken-codes n bottom rest h = taken-step 0x21 rest
+taken-codes n (conj p q) rest h =
+    taken-step 0x30 ((codes p ++ codes q) ++ rest) ∙ two-codes conj p q rest (taken-codes n p (codes q ++ rest) (h .0)) (taken-codes n q rest (h .1))
+taken-codes n (disj p q) rest h =
+    taken-step 0x31 ((codes p ++ codes q) ++ rest) ∙ two-codes disj p q rest (taken-codes n p (codes q ++ rest) (h .0)) (taken-codes n q rest (h .1))
+taken-codes n (project s p) rest h = taken-step (projectCode s) (codes p ++ rest) ∙ rw (code-project 12 s, taken-codes n p rest h)
+
+-- So does a list that is accepted as a term.
+pub term-in : (n : ℕ) (bytes : List ℕ) (t : Term) → readTerm n bytes ≡ accepted t → termIn bytes ≡ t
+term-in n bytes t e =
+    let h = accepted-codes n bytes t .0 e in
+    ap (λ (cs : List ℕ). termIn cs) (h .0 ∙ sym (append-nil (codes t))) ∙ ap (λ (x : Taken). x .term) (taken-codes n t [] (h .1))

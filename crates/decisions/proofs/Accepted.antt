@@ -81,8 +81,7 @@ module _ (bytes : List ℕ) (n grants : ℕ) (l : Ledger) (h : LedgerOf bytes n 
         rw (le-ltb 64 grants grants-few)
         (packed-cong (countsIn bytes n grants label) (ofGrant (counts n L) (l .grants)) 0 64 (λ k _ _. counts-in label e k))
 
-    -- and the coalitions that keep the grants of these bits are the sound ones
-    pub sound-in : (s : Side) (c : ℕ) → soundIn bytes grants (countingMarks n L l) s c ≡ soundUnder l L s c
+    sound-in : (s : Side) (c : ℕ) → soundIn bytes grants (countingMarks n L l) s c ≡ soundUnder l L s c
     unfolding soundIn soundUnder every
     sound-in s c = first grants (omega arith) ∙ rw (take-all grants (l .grants) (omega (arith, h .count)), h .names)
       where
@@ -100,3 +99,7 @@ module _ (bytes : List ℕ) (n grants : ℕ) (l : Ledger) (h : LedgerOf bytes n 
         first (suc k) b =
             ap₂ _&&_ (first k (omega arith)) (each k (omega arith))
             ∙ sym (sound-more n L s c (l .grants) k noGrant (omega (arith, h .count)))
+
+    -- and the coalitions that keep the grants of these bits are the sound ones
+    pub sound-counted : (label : List ℕ) (marks : ℕ) → readTerm n label ≡ accepted L → marks ≡ countingIn bytes n grants label → (s : Side) (c : ℕ) → soundIn bytes grants marks s c ≡ soundUnder l L s c
+    sound-counted label marks e m s c = rw (m ∙ counting-in label e) (sound-in s c)

@@ -21,7 +21,7 @@ use Rattle.words.proofs.AnyBytes.{term-in}
 use Rattle.decisions.specs.declared.Question.{Question}
 use Rattle.decisions.specs.Promises.{jobOf, countingIn, soundIn, LedgerOf}
 use Rattle.decisions.specs.Answers.{judgeOf, questionOf}
-use Rattle.decisions.proofs.Accepted.{job-is, names-few, counting-in, sound-in}
+use Rattle.decisions.proofs.Accepted.{job-is, names-few, sound-counted}
 use Rattle.decisions.proofs.Refuting.{judged-under}
 
 -- the number that the code hands on is the reader's refusal
@@ -45,8 +45,8 @@ pub judged-asked : (question : Question) (ledger p q label : List ℕ) (n grants
     → readTerm n p ≡ accepted tp → readTerm n q ≡ accepted tq → readTerm n label ≡ accepted L → marks ≡ countingIn ledger n grants label
     → judgeOf question (jobOf n) (soundIn ledger grants marks) (termIn p) (termIn q) ≡ questionOf question l L tp tq
 judged-asked question ledger p q label n grants marks l tp tq L of a b c counted =
-    rw (counted ∙ counting-in ledger n grants l of L label c, job-is n (names-few ledger n grants l of), term-in n p tp a, term-in n q tq b)
-    (judged-under question n l L tp tq _ (of .names) (sound-in ledger n grants l of L))
+    rw (job-is n (names-few ledger n grants l of), term-in n p tp a, term-in n q tq b)
+    (judged-under question n l L tp tq _ (of .names) (sound-counted ledger n grants l of L label marks c counted))
 
 -- ---- a question whose ledger is refused, or p, q or the label
 module _ (answer : Ledger → Term → Term → Term → Answer) (ledger p q label : List ℕ) where

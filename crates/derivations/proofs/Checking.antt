@@ -1,10 +1,8 @@
 -- A step's check, one test after another. Assumes nothing.
 use Prim.Native.Nat.{ℕ, suc, _+_, _-_, _%_, _^_, _≤_, _<_}
-use native.Mathlib.Nat.{lt-of-lt-of-le, zero-add, sub-zero}
-use native.Mathlib.Decide.{decLt}
+use native.Mathlib.Nat.{sub-zero}
 use native.Mathlib.Numerals.{add-one}
 use native.Mathlib.Omega.{arith}
-use lib.Pow.{pow-mono}
 use mathlib.Core.Path.{_≡_, refl, sym, ap, subst, _∙_}
 use mathlib.Core.Bool.{Bool, true, false, cond, not, _&&_, _||_}
 use mathlib.Core.List.{List, []}
@@ -14,29 +12,22 @@ use borrow.Author.Tests.{leb-true}
 use Rattle.model.specs.Bytes.{byte, Reading, accepted, refused, require}
 use Rattle.model.specs.Answers.{Answer, Yes, RefusedAt, Refused as RefusedAnswer}
 use Rattle.model.specs.Terms.{Term, readTerm, member}
-use Rattle.model.specs.Grants.{Grant, counts}
+use Rattle.model.specs.Grants.{counts}
 use Rattle.model.specs.Ledgers.{Ledger, readLedger}
-use Rattle.model.specs.Extracts.{packed}
 use Rattle.model.specs.Derivations.{stepAt, ruleOf, usesOf, stepForm, readLeft, readRight, isAccepted, ofGrant, checkStep, onStep, checkSteps, derivationLength, stepCount, checkDerivation, ifAccepted, grantBlock, quote}
 use Rattle.model.proofs.Truth.{and-right}
-use Rattle.model.proofs.Packed.{member-packed, packed-lt}
-use Rattle.model.proofs.Monotone.{member-past}
-use Rattle.model.proofs.Prefixes.{ofGrant-past}
 use Rattle.model.proofs.Stands.{ledger-stands}
 use Rattle.terms.specs.Readings.{termReading}
 use Rattle.terms.proofs.Accepted.{AcceptedTerm}
 use Rattle.ledgers.proofs.Accepted.{AcceptedLedger}
 use Rattle.terms.specs.declared.TermReading.{TermReading}
 use Rattle.terms.specs.declared.TermReading.the-variants.{Accepted as TermAccepted, Refused as TermRefused}
-use Rattle.decisions.specs.Promises.{LedgerOf, countingMarks}
+use Rattle.decisions.specs.Promises.{countingIn, LedgerOf, countingMarks}
+use Rattle.decisions.proofs.Accepted.{marks-say, counting-in}
 use Rattle.decisions.proofs.Asking.{ledger-of}
 use Rattle.derivations.specs.Steps.{readField, readStep, premisesBefore, Ready, meetsAt, checkAt, stepCheck}
 use Rattle.derivations.specs.declared.StepCheck.{StepCheck}
 use Rattle.derivations.specs.declared.StepCheck.the-variants.{Accepted, Refused}
-
--- the marks of a word end at 64
-pub word-past : (k x : ℕ) → x < 2 ^ 64 → 64 ≤ k → member k x ≡ false
-word-past k x h l = member-past k x (lt-of-lt-of-le h (pow-mono l))
 
 -- the term was accepted
 abbrev pub told : TermReading → Bool
@@ -56,13 +47,6 @@ unfolding readRight readField
 right-told n step s e = term-told (readRight n step) ∙ ap told e
 
 -- ---- a step
-
--- the marks of grants that count say so of each grant
-pub marks-say : (f : Grant → Bool) (gs : List Grant) (k : ℕ) → length gs ≤ 64 → member k (packed (ofGrant f gs) 0 64) ≡ ofGrant f gs k
-marks-say f gs k h = elim (decLt k 64) [
-  | yes b ↦ member-packed (ofGrant f gs) 0 64 k b ∙ ap (ofGrant f gs) (zero-add k)
-  | no b ↦ word-past k (packed (ofGrant f gs) 0 64) (packed-lt (ofGrant f gs) 0 64) (omega arith) ∙ sym (ofGrant-past f gs k (omega arith))
-]
 
 -- what follows the reading of a step; a refusal stays the answer
 abbrev pub onRead : StepCheck → StepCheck → StepCheck
@@ -175,12 +159,12 @@ module _ (d ledger label : List ℕ) where
 
       -- what the steps' check says of the marks, and what the marks are
       pub steps-checked : (marks : ℕ) (answer : Answer) → derivationLength (length d) ≡ true
-          → ((l : Ledger) (L : Term) → LedgerOf ledger n k l → readTerm n label ≡ accepted L → marks ≡ countingMarks n L l)
+          → marks ≡ countingIn ledger n k label
           → ((l : Ledger) (L : Term) → LedgerOf ledger n k l → marks ≡ countingMarks n L l → answer ≡ checkSteps l L d 0 (stepCount d))
           → answer ≡ checkDerivation d ledger label
       steps-checked marks answer e counted checked =
           let of = ledger-of ledger n k read in
-          rw (both-accepted (term .term) (term .is), e) (checked (read .ledger) (term .term) of (counted (read .ledger) (term .term) of (term .is)))
+          rw (both-accepted (term .term) (term .is), e) (checked (read .ledger) (term .term) of (counted ∙ counting-in ledger n k (read .ledger) of (term .term) label (term .is)))
 
 -- ---- quoting
 

@@ -1,7 +1,7 @@
 -- What the code compares is what a rule asks for. Assumes nothing.
 use Prim.Native.Nat.{ℕ, _≤_}
 use native.Mathlib.Omega.{arith}
-use mathlib.Core.Path.{_≡_, refl}
+use mathlib.Core.Path.{_≡_, refl, _∙_}
 use mathlib.Core.Bool.{Bool, true, false, _&&_, false≢true}
 use mathlib.Core.List.{List}
 use lib.Dec.{ltb, leb}
@@ -14,6 +14,10 @@ use Rattle.model.specs.Ledgers.{Ledger, pBytes, qBytes}
 use Rattle.model.specs.Derivations.{stepAt, left, right, Rule, static, granted, ruleOf, readLeft, readRight, isAccepted, meets, grantBlock}
 use Rattle.model.proofs.Stands.{ledger-stands}
 use Rattle.model.proofs.Prefixes.{ofGrant-getD}
+use Rattle.words.specs.AnyBytes.{termIn}
+use Rattle.words.proofs.AnyBytes.{term-in}
+use Rattle.decisions.specs.Promises.{jobOf}
+use Rattle.decisions.proofs.Accepted.{job-is}
 use Rattle.derivations.specs.Steps.{Ready, meetsAt}
 
 -- the rule is the one that byte 0 names, and the premises are the steps that bytes 1 and 2 name
@@ -37,13 +41,13 @@ field-read n bytes true e = by (readTerm n bytes) refl e
 
 module _ (ledger : List ℕ) (n : ℕ) (step : List ℕ) (l : Ledger) (ready : Ready ledger n step l) (a b : List ℕ) (r : Bool) where
   -- rule 1, of the terms that were read
-  pub static-met : ((p q : Term) → n ≤ 12 → readTerm n (left step) ≡ accepted p → readTerm n (right step) ≡ accepted q → r ≡ actsStatically n p q) → r ≡ meets l static step a b
+  pub static-met : r ≡ actsStatically (jobOf n) (termIn (left step)) (termIn (right step)) → r ≡ meets l static step a b
   unfolding meets readLeft readRight
   static-met judged =
       let p = field-read n (left step) (leb (byte 4 step) 64) (ready .left-read) in
       let q = field-read n (right step) (leb (byte 5 step) 64) (ready .right-read) in
       let few : n ≤ 12 = omega (arith, ready .names, ledger-stands ledger l (ready .is) .names-most) in
-      rw (← ready .names, p .whole-is, q .whole-is) (judged (p .term) (q .term) few (p .is) (q .is))
+      judged ∙ rw (job-is n few, term-in n (left step) (p .term) (p .is), term-in n (right step) (q .term) (q .is), ← ready .names, p .whole-is, q .whole-is)
 
   -- rule 2, of the grant's terms where they stand in its block
   pub grant-met : byte 0 step ≡ 2

@@ -3,7 +3,8 @@ use mathlib.Core.Path.{_≡_, refl, sym, ap, ap₂, _∙_}
 use mathlib.Core.Bool.{Bool, false, _&&_}
 use mathlib.Core.List.{List, _∷_, _++_}
 use Prim.Native.Nat.{ℕ, zero, suc, _+_, _*_, _-_, _^_, _≤_, _<_}
-use native.Mathlib.Nat.{le-of-eq, zero-add, add-zero, add-suc, suc-add}
+use native.Mathlib.Decide.{decLt}
+use native.Mathlib.Nat.{le-of-eq, le-of-lt, zero-add, add-zero, add-suc, suc-add}
 use native.Mathlib.Omega.{arith}
 use lib.ListN.{length, drop, length-replicate, replicate-append-replicate}
 use lib.Seq.{paste, drop-at}
@@ -14,7 +15,7 @@ use Rattle.model.specs.Extracts.{mark, packed, packedBytes}
 use Rattle.model.proofs.Table.{length-packed}
 use Rattle.words.specs.Evaluation.{wordsOf}
 use Rattle.words.proofs.Packing.{packed-zero}
-use Rattle.words.proofs.Names.{words-enough, words-few}
+use Rattle.words.proofs.Names.{words-enough, words-few, words-most}
 use Rattle.extracts.specs.Halves.{littleEndian, blank, Halves}
 use Rattle.extracts.proofs.Pasting.{paste-long, paste-after}
 use Rattle.extracts.proofs.WordBytes.{length-bytes, marks-bytes}
@@ -32,10 +33,11 @@ drop-blank : (a b : ℕ) → drop a (blank (a + b)) ≡ blank b
 drop-blank a b = ap (drop a) (sym (replicate-append-replicate a b 0)) ∙ drop-at (blank a) (blank b) a (length-replicate a 0)
 
 -- no mark, no bit
-clear : (f : ℕ → Bool) (j k : ℕ) → ((c : ℕ) → 8 * j ≤ c → f c ≡ false) → packedBytes f j k ≡ blank k
+clear : (f : ℕ → Bool) (j k : ℕ) → ((c : ℕ) → 8 * j ≤ c → c < 8 * (j + k) → f c ≡ false) → packedBytes f j k ≡ blank k
 unfolding packedBytes
 clear f j zero h = refl
-clear f j (suc k) h = ap₂ (λ (x : ℕ) (l : List ℕ). x ∷ l) (packed-zero f (8 * j) 8 .1 (λ c a b. h c a)) (clear f (suc j) k (λ c a. h c (omega arith)))
+clear f j (suc k) h =
+    ap₂ (λ (x : ℕ) (l : List ℕ). x ∷ l) (packed-zero f (8 * j) 8 .1 (λ c a b. h c a (omega arith))) (clear f (suc j) k (λ c a b. h c (omega arith) (omega arith)))
 
 module _ (f : ℕ → Bool) where
   pub half-start : blank 512 ≡ halfTo f 0
@@ -66,15 +68,22 @@ module _ (half next : List ℕ) (w word : ℕ) (h : w < 64) (put : next ≡ past
   pub turn-half : (f : ℕ → Bool) → word ≡ packed f (64 * w) 64 → half ≡ halfTo f w → next ≡ halfTo f (w + 1)
   turn-half f e i = put ∙ ap₂ (λ (l : List ℕ) (x : ℕ). paste l (8 * w) (littleEndian 8 x) 8) i e ∙ half-more f w h
 
+-- no coalition of n names stands past their words, or these fill the half
+past-words : (n c : ℕ) → 64 * wordsOf n ≤ c → c < 4096 → 2 ^ n ≤ c
+past-words n c a b = elim (decLt 12 n) [
+  | yes l ↦ absurd (omega (arith, words-most n (le-of-lt l)))
+  | no l ↦ omega (arith, words-enough n (omega arith))
+]
+
 -- all words of n names: from 2^n up all bits are clear
-pub half-end : (n : ℕ) (f : ℕ → Bool) → n ≤ 12 → halfTo (mark n f) (wordsOf n) ≡ packedBytes (mark n f) 0 512
+pub half-end : (n : ℕ) (f : ℕ → Bool) → halfTo (mark n f) (wordsOf n) ≡ packedBytes (mark n f) 0 512
 unfolding halfTo mark
-half-end n f h =
+half-end n f =
     let w = wordsOf n in
     let few = words-few n in
     let k : 8 * w + (512 - 8 * w) ≡ 512 = omega arith in
     ap (λ (l : List ℕ). packedBytes (mark n f) 0 (8 * w) ++ l)
-    (sym (clear (mark n f) (0 + 8 * w) (512 - 8 * w) (λ c a. ap (λ (b : Bool). b && f c) (le-ltb c (2 ^ n) (omega (arith, words-enough n h))))))
+    (sym (clear (mark n f) (0 + 8 * w) (512 - 8 * w) (λ c a b. ap (λ (t : Bool). t && f c) (le-ltb c (2 ^ n) (past-words n c (omega arith) (omega arith))))))
     ∙ sym (bytes-append (mark n f) 0 (8 * w) (512 - 8 * w)) ∙ ap (packedBytes (mark n f) 0) k
 
 -- both halves with the marks of the first w words
@@ -88,8 +97,8 @@ filled-start n S see change a b = record {
   change-half = b ∙ half-start (mark n (S integrity));
 }
 
-pub filled-end : (n : ℕ) (S : Marks) (w : ℕ) (see change : List ℕ) → n ≤ 12 → w ≡ wordsOf n → Filled n S w see change → Halves n S see change
-filled-end n S w see change h e f = record {
-  see-half = f .see-half ∙ ap (halfTo (mark n (S confidentiality))) e ∙ half-end n (S confidentiality) h;
-  change-half = f .change-half ∙ ap (halfTo (mark n (S integrity))) e ∙ half-end n (S integrity) h;
+pub filled-end : (n : ℕ) (S : Marks) (w : ℕ) (see change : List ℕ) → w ≡ wordsOf n → Filled n S w see change → Halves n S see change
+filled-end n S w see change e f = record {
+  see-half = f .see-half ∙ ap (halfTo (mark n (S confidentiality))) e ∙ half-end n (S confidentiality);
+  change-half = f .change-half ∙ ap (halfTo (mark n (S integrity))) e ∙ half-end n (S integrity);
 }

@@ -5,11 +5,8 @@ ghost use mathlib.Core.Path.{_≡_};
 ghost use Prim.Native.Nat.{_+_, _*_, _≤_, _<_};
 ghost use lib.ListN.{length};
 ghost use lib.Seq.{paste};
-ghost use Rattle.model.specs.Terms.{Term};
-ghost use Rattle.model.specs.Ledgers.{Ledger};
-ghost use Rattle.model.specs.Questions.{soundUnder};
 ghost use Rattle.model.specs.Extracts.{extract};
-ghost use Rattle.decisions.specs.Promises.{LedgerOf, countingMarks};
+ghost use Rattle.decisions.specs.Promises.{soundIn};
 ghost use Rattle.extracts.specs.Halves.{littleEndian, blank, Halves};
 ghost use Rattle.extracts.specs.Results.{outcome};
 
@@ -25,7 +22,7 @@ fn put_word(half: &mut [u8; 512], w: usize, word: u64)
     }
 }
 
-// Marks the sound coalitions in both halves, which are all 00 before. `marks` are the grants that count.
+// Marks in both halves, which are all 00 before, the coalitions that keep each grant whose bit is set.
 fn mark_sound(
     ledger: &[u8],
     n: u64,
@@ -35,7 +32,7 @@ fn mark_sound(
     change: &mut [u8; 512],
 )
     requires { ⌜ (now see ≡ blank 512) × (now change ≡ blank 512) ⌝ }
-    ensures { λ _. ⌜ ((l : Ledger) (L : Term) → LedgerOf (now (ledger .entry)) n grants l → marks ≡ countingMarks n L l → Halves n (soundUnder l L) (now (see .exit)) (now (change .exit))) ⌝ }
+    ensures { λ _. ⌜ Halves n (soundIn (now (ledger .entry)) grants marks) (now (see .exit)) (now (change .exit)) ⌝ }
 {
     let words = words::word_count(n);
     let mut w: u64 = 0;

@@ -11,13 +11,16 @@ use lib.Dec.{leb}
 use lib.ListN.{getD}
 use lib.Pow.{pow-mono, pow-add, pow-pos, low}
 use borrow.Author.Tests.{eqb-true, le-leb, lt-leb}
-use Rattle.model.specs.Terms.{name, codes, NamesBelow, member, held}
+use Rattle.model.specs.Answers.{confidentiality}
+use Rattle.model.specs.Terms.{Term, name, codes, NamesBelow, member, held}
 use Rattle.model.specs.Extracts.{packed}
 use Rattle.model.specs.Grants.{implies, every}
 use Rattle.model.proofs.Truth.{clash, false-of}
 use Rattle.model.proofs.Packed.{packed-lt, own-bits}
 use Rattle.model.proofs.Monotone.{member-le}
-use Rattle.words.specs.Evaluation.{EvaluatedWhole}
+use Rattle.words.specs.AnyBytes.{termIn}
+use Rattle.words.specs.Evaluation.{Evaluated}
+use Rattle.words.proofs.AnyBytes.{term-codes}
 use Rattle.words.proofs.Packing.{packed-shift, packed-cong, packed-and, packed-not, packed-none, packed-zero, packed-split}
 use Rattle.words.proofs.Names.{below-six, high-member, words-full, shifted}
 use Rattle.short_forms.specs.Listings.{marked, markedWithout, irredundant}
@@ -99,11 +102,12 @@ marked-word words w h =
 
 module _ (words : List ℕ) (w i : ℕ) where
   -- what the code answers at a name below 6: the marks moved up, of the coalitions that have the name
-  pub less-moved : (see change next : ℕ) → i < 6 → getD words w 0 < 2 ^ 64 → EvaluatedWhole (i ∷ []) w see change next
+  pub less-moved : (see change next : ℕ) → i < 6 → getD words w 0 < 2 ^ 64 → Evaluated (i ∷ []) 0 w see change next
       → bitAnd (getD words w 0 * 2 ^ (1 * 2 ^ i % 2 ^ 64) % 2 ^ 64) see ≡ packed (markedWithout i (marked words)) (64 * w) 64
   unfolding codes NamesBelow held
   less-moved see change next h fits e =
-      let have : see ≡ packed (member i) (64 * w) 64 = e .term 12 (name i) refl (omega arith) .see-word in
+      let one : termIn (i ∷ []) ≡ name i = term-codes 12 (i ∷ []) (name i) refl (omega arith) in
+      let have : see ≡ packed (member i) (64 * w) 64 = e .words .see-word ∙ ap (λ (t : Term). packed (held t confidentiality) (64 * w) 64) one in
       rw (have, shifted i (omega arith), marked-word words w fits) (less-low (marked words) w i h)
 
   -- and at a name from 6 up that they have: the marks of another word

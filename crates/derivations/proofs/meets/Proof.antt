@@ -1,6 +1,6 @@
 -- `derivations::meets` meets its contract: one case for each rule. Assumes nothing.
 use native.Mathlib.Omega.{arith}
-use mathlib.Core.Path.{_≡_, refl, ap}
+use mathlib.Core.Path.{_≡_, refl, ap, _∙_}
 use mathlib.Core.Bool.{Bool}
 use Rattle.model.specs.Bytes.{byte}
 use Rattle.model.specs.Answers.{confidentiality, integrity}
@@ -84,7 +84,7 @@ unfolding ruleOf
 returns c = λ l ready.
     let m = c .before .before .before in
     by-rule (m .before) l static (c .acts-statically .result) (ap ruleOf (m .match .keys1))
-    (static-met _ _ _ l ready _ _ _ (λ p q few ep eq. c .acts-statically .ensures p q few (rw (c .before .before .left .ensures) ep) (rw (c .before .right .ensures) eq)))
+    (static-met _ _ _ l ready _ _ _ (c .acts-statically .ensures ∙ rw (c .before .before .left .ensures, c .before .right .ensures)))
 
 returns-2 : tie.Need-returns-2
 unfolding ruleOf

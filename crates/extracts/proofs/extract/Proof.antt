@@ -6,10 +6,14 @@ use mathlib.Core.List.{List}
 use lib.ListN.{length}
 use lib.Seq.{paste}
 use borrow.Author.Needs.{needs}
+use Rattle.model.specs.Grants.{Marks}
 use Rattle.model.specs.Questions.{soundUnder}
+use Rattle.model.specs.Extracts.{table}
+use Rattle.model.proofs.Table.{table-cong}
 use Rattle.terms.proofs.Accepted.{AcceptedTerm, accepted-term}
 use Rattle.ledgers.proofs.Accepted.{AcceptedLedger, accepted-ledger}
-use Rattle.decisions.specs.Promises.{LedgerOf}
+use Rattle.decisions.specs.Promises.{soundIn, LedgerOf}
+use Rattle.decisions.proofs.Accepted.{sound-counted}
 use Rattle.decisions.proofs.Asking as asking
 use Rattle.extracts.specs.Halves.{Halves}
 use Rattle.extracts.proofs.Outcomes.{see-length, change-length, halves-table, size-refused, ledger-refused, label-refused, table-written}
@@ -57,13 +61,18 @@ ledger-is c = asking.ledger-of _ _ _ (ledger-of c)
 abbrev accepted : tie.After-mark-sound → tie.After-enum-told2
 accepted c = c .before .before .before .before
 
--- both halves are marked
-halves : (c : tie.After-mark-sound) → Halves (names (known (accepted c))) (soundUnder (ledger-of (known (accepted c)) .ledger) (label-of (accepted c) .term)) (c .mark-sound .last .1 .1 .1 .1 .0) (c .mark-sound .last .1 .1 .1 .1 .1 .0)
-halves c =
-    let l = ledger-of (known (accepted c)) .ledger in
+-- both halves have the marks of those that keep each grant whose bit is set
+abbrev marks : tie.After-mark-sound → Marks
+marks c = soundIn (ledgerIn (sized (known (accepted c)))) (count (known (accepted c))) (c .before .before .before .counting .result)
+
+halves : (c : tie.After-mark-sound) → Halves (names (known (accepted c))) (marks c) (c .mark-sound .last .1 .1 .1 .1 .0) (c .mark-sound .last .1 .1 .1 .1 .1 .0)
+halves c = c .mark-sound .ensures
+
+-- these are the sound ones
+sound-table : (c : tie.After-mark-sound) → let k = known (accepted c) in table (names k) (marks c) ≡ table (names k) (soundUnder (ledger-of k .ledger) (label-of (accepted c) .term))
+sound-table c =
     let L = label-of (accepted c) in
-    let is = ledger-is (known (accepted c)) in
-    c .mark-sound .ensures l (L .term) is (c .before .before .before .counting .ensures l (L .term) is (L .is))
+    table-cong _ _ _ (λ s d _. sound-counted _ _ _ _ (ledger-is (known (accepted c))) (L .term) _ _ (L .is) (c .before .before .before .counting .ensures) s d)
 
 returns : tie.Need-returns
 returns c = let a = c .before .before .before .before .args in size-refused (a .ledger .now) (a .label .now) (a .buffer .now) (λ e. omega arith)
@@ -148,7 +157,7 @@ returns-4 c =
     let l = ledger-of k in
     let L = label-of a in
     table-written (ledgerIn s) (labelIn s) (bufferIn s) (fits s) (l .ledger) (names k) (l .is) (l .names) (L .term) _ (L .is)
-    (copied c ∙ halves-table _ _ _ _ (bufferIn s) (fits s) (halves (marked c)))
+    (copied c ∙ halves-table _ _ _ _ (bufferIn s) (fits s) (halves (marked c)) ∙ sound-table (marked c))
 
 pub extract-spec : {M : Type 1} → statement M
 extract-spec =

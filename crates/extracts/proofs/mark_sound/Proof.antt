@@ -7,11 +7,7 @@ use borrow.Author.Needs.{needs}
 use Rattle.model.specs.Answers.{confidentiality, integrity}
 use Rattle.model.specs.Extracts.{mark}
 use Rattle.words.proofs.Names.{words-few}
-use Rattle.model.specs.Terms.{Term}
-use Rattle.model.specs.Ledgers.{Ledger}
-use Rattle.model.specs.Questions.{soundUnder}
-use Rattle.decisions.specs.Promises.{LedgerOf, countingMarks}
-use Rattle.decisions.proofs.Marks.{names-few}
+use Rattle.decisions.specs.Promises.{soundIn}
 use Rattle.extracts.proofs.Filling.{Filled, filled-start, filled-end, turn-length, turn-half}
 use Rattle.extracts.proofs.mark_sound.Statement.{statement}
 use Rattle.extracts.proofs.mark_sound.Tie as tie
@@ -20,7 +16,7 @@ abbrev Inv-loop : tie.InvT-loop
 Inv-loop ledger n grants marks see₀ change₀ words w₀ see change w =
     (w ≤ words)
     × ((length see ≡ 512) × (length change ≡ 512))
-    × ((l : Ledger) (L : Term) → LedgerOf ledger n grants l → marks ≡ countingMarks n L l → Filled n (soundUnder l L) w see change)
+    × Filled n (soundIn ledger grants marks) w see change
 
 abbrev μ-loop : tie.MeasureT-loop
 μ-loop ledger n grants marks see₀ change₀ words w₀ see change w = words - w
@@ -35,7 +31,7 @@ word-count-requires c κs = search needs
 loop-holds : tie.Need-loop-holds Inv-loop μ-loop
 loop-holds c =
     let a = c .before .before in
-    (omega arith, (ap length (a .pre .0), ap length (a .pre .1)), λ l L is m. filled-start (a .args .n) (soundUnder l L) (a .args .see .now) (a .args .change .now) (a .pre .0) (a .pre .1))
+    (omega arith, (ap length (a .pre .0), ap length (a .pre .1)), filled-start (a .args .n) _ (a .args .see .now) (a .args .change .now) (a .pre .0) (a .pre .1))
 
 sound-word-requires : tie.Need-sound-word-requires Inv-loop μ-loop
 sound-word-requires c κs = search needs
@@ -62,23 +58,23 @@ loop-again c =
     let sound = first .before .before in
     let l = sound .before .before .loop in
     let a = sound .before .before .before .before .before .args in
+    let S = soundIn (a .ledger .now) (a .grants) (a .marks) in
     let h = few (sound .before) in (
       omega arith,
       (
         turn-length (l .see) (first .put-word .last .0) (l .w) (sound .sound-word .result .see) h (first .put-word .ensures) (l .inv .1 .0),
         turn-length (l .change) (c .put-word2 .last .0) (l .w) (sound .sound-word .result .change) h (c .put-word2 .ensures) (l .inv .1 .1),
       ),
-      λ g L is m. record {
-        see-half = turn-half (l .see) (first .put-word .last .0) (l .w) (sound .sound-word .result .see) h (first .put-word .ensures) (mark (a .n) (soundUnder g L confidentiality)) (sound .sound-word .ensures g L is m .see-word) (l .inv .2 g L is m .see-half);
-        change-half = turn-half (l .change) (c .put-word2 .last .0) (l .w) (sound .sound-word .result .change) h (c .put-word2 .ensures) (mark (a .n) (soundUnder g L integrity)) (sound .sound-word .ensures g L is m .change-word) (l .inv .2 g L is m .change-half);
+      record {
+        see-half = turn-half (l .see) (first .put-word .last .0) (l .w) (sound .sound-word .result .see) h (first .put-word .ensures) (mark (a .n) (S confidentiality)) (sound .sound-word .ensures .see-word) (l .inv .2 .see-half);
+        change-half = turn-half (l .change) (c .put-word2 .last .0) (l .w) (sound .sound-word .result .change) h (c .put-word2 .ensures) (mark (a .n) (S integrity)) (sound .sound-word .ensures .change-word) (l .inv .2 .change-half);
       },
     )
 
 returns : tie.Need-returns Inv-loop μ-loop
 returns c =
     let l = c .before .loop in
-    let n = c .before .before .before .before .args .n in
-    λ g L is m. filled-end n (soundUnder g L) (l .w) (l .see) (l .change) (names-few _ _ _ g is) (omega (arith, c .before .before .word-count .ensures)) (l .inv .2 g L is m)
+    filled-end (c .before .before .before .before .args .n) _ (l .w) (l .see) (l .change) (omega (arith, c .before .before .word-count .ensures)) (l .inv .2)
 
 pub mark-sound-spec : {M : Type 1} → statement M
 mark-sound-spec =

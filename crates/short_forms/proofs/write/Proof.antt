@@ -4,6 +4,7 @@ use native.Mathlib.Omega.{arith}
 use lib.ListN.{length-take, length-drop}
 use lib.Pow.{pow-mono}
 use borrow.Author.Needs.{needs}
+use Rattle.words.proofs.AnyBytes.{term-codes}
 use Rattle.words.proofs.Names.{words-few}
 use Rattle.short_forms.proofs.Sides.{listing-few, sides-written}
 use Rattle.short_forms.proofs.write.Statement.{statement}
@@ -63,9 +64,11 @@ returns c =
     let e = first .before .before .before in
     let s = start e in
     let tables = e .evaluate .ensures in
+    let room = words-few (s .args .n) in
     record {
-      term = λ t is b. sides-written (s .pre .0) b (tables .0 .term _ t is b (words-few (s .args .n))) (tables .1 .term _ t is b (words-few (s .args .n)))
-          (first .list-side .ensures) (c .before .before .list-side2 .ensures);
+      term = λ t is b.
+          let one = term-codes _ _ t is b in
+          sides-written (s .pre .0) b (rw one at (tables .0 .table room)) (rw one at (tables .1 .table room)) (first .list-side .ensures) (c .before .before .list-side2 .ensures);
     }
 
 pub write-spec : {M : Type 1} → statement M

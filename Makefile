@@ -25,6 +25,7 @@ CALLS = 250000
 LIB = build/librights.a
 CASES_DATA = crates/cases/data/calls
 
+# where to install; absolute, since rights.pc names it
 PREFIX = /usr/local
 override PREFIX := $(abspath $(PREFIX))
 LIBDIR = $(PREFIX)/lib

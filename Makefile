@@ -1,7 +1,11 @@
 # make               build/librights.a, with rights.h and rights.pc beside it
+# make install       these three into /usr/local: make install PREFIX=/opt/rights DESTDIR=stage
+# make uninstall     and out of it, with the same PREFIX and DESTDIR
 # make demo          the example program
 # make test          every test and every proof
 # make check-c       the tests in C alone
+# make check-pkg-config check-install
+#                    the example against build/ and against an installed library, as pkg-config finds them
 # make bench         how fast the library is beside the reference
 # make fuzz          a fuzzer for a while: make fuzz SECONDS=60
 # make stack-use     how much stack a call takes
@@ -21,6 +25,13 @@ CALLS = 250000
 LIB = build/librights.a
 CASES_DATA = crates/cases/data/calls
 
+# where to install; absolute, since rights.pc names it
+PREFIX = /usr/local
+override PREFIX := $(abspath $(PREFIX))
+LIBDIR = $(PREFIX)/lib
+INCLUDEDIR = $(PREFIX)/include
+PKGCONFIGDIR = $(LIBDIR)/pkgconfig
+
 BOTH = tests/calls.c tests/build.c reference/reference.c
 BOTH_AND_LIB = $(BOTH) tests/library.c $(LIB)
 RANDOM = tests/random_calls.c tests/coverage.c
@@ -32,8 +43,16 @@ build/librights.a: crates.txt $(shell find crates -name '*.rt' -o -name '*.antt'
 	rt staticlib rights
 	cp target/staticlib/librights.a $@
 
-build/rights.h build/rights.pc: build/%: include/% | build
+build/rights.h: include/rights.h | build
 	cp $< $@
+
+# rights.pc with a prefix, the library's folder and the header's; its version is the header's
+VERSION = $(shell sed -n 's/^.define RIGHTS_VERSION //p' include/rights.h)
+rights_pc = sed -e 's|@VERSION@|$(VERSION)|' -e 's|@PREFIX@|$1|' -e 's|@LIBDIR@|$2|' -e 's|@INCLUDEDIR@|$3|' \
+	include/rights.pc.in
+
+build/rights.pc: include/rights.pc.in include/rights.h Makefile | build
+	$(call rights_pc,$${pcfiledir},$${pcfiledir},$${pcfiledir}) >$@
 
 build:
 	mkdir -p $@
@@ -45,10 +64,24 @@ c-tools:
 fuzz-tools:
 	@scripts/need $(CLANG) lib$(CLANG:clang-%=clang-rt-%)-dev
 
+# ---- Installing ----
+
+install: library
+	install -d $(DESTDIR)$(LIBDIR) $(DESTDIR)$(INCLUDEDIR) $(DESTDIR)$(PKGCONFIGDIR)
+	install -m 644 build/librights.a $(DESTDIR)$(LIBDIR)
+	install -m 644 build/rights.h $(DESTDIR)$(INCLUDEDIR)
+	$(call rights_pc,$(PREFIX),$(LIBDIR),$(INCLUDEDIR)) | install -m 644 /dev/stdin $(DESTDIR)$(PKGCONFIGDIR)/rights.pc
+
+uninstall:
+	rm -f $(DESTDIR)$(LIBDIR)/librights.a $(DESTDIR)$(INCLUDEDIR)/rights.h $(DESTDIR)$(PKGCONFIGDIR)/rights.pc
+
 # ---- Programs ----
 
-PROGRAMS = build/workflow build/worked_cases build/compare build/stack_use build/make_cases build/bench
+PROGRAMS = build/header build/first build/workflow build/worked_cases build/compare build/stack_use build/make_cases \
+	build/bench
 
+build/header: tests/header.c tests/coverage.c $(BOTH) build/rights.pc
+build/first: build/first.c $(LIB)
 build/workflow: examples/workflow.c $(LIB)
 build/worked_cases: tests/worked_cases.c $(BOTH_AND_LIB)
 build/compare: tests/compare.c $(RANDOM) $(BOTH_AND_LIB)
@@ -56,9 +89,14 @@ build/stack_use: tests/stack_use.c $(RANDOM) $(BOTH_AND_LIB)
 build/make_cases: tests/make_cases.c $(RANDOM) $(BOTH)
 build/bench: bench/bench.c $(RANDOM) $(BOTH_AND_LIB)
 
+build/header: CFLAGS += -DPC_VERSION=$$(PKG_CONFIG_PATH=build pkg-config --modversion rights)
 build/worked_cases build/compare: CFLAGS += $(SANITIZE)
 build/stack_use: CFLAGS += -pthread
 build/bench: CFLAGS += -O3
+
+# the README's first program
+build/first.c: README.md | build
+	sed -n '/^    #include "rights.h"/,/^    }/s/^    //p' $< >$@
 
 $(PROGRAMS): $(HEADERS) | build c-tools
 	$(CC) $(CFLAGS) $(filter %.c %.a,$^) -o $@
@@ -66,8 +104,20 @@ $(PROGRAMS): $(HEADERS) | build c-tools
 build/from_cpp: tests/from_cpp.cpp include/rights.h $(LIB) | build c-tools
 	$(CXX) -std=c++11 $(WARNINGS) -Iinclude $(filter %.cpp %.a,$^) -o $@
 
-build/workflow_by_pkg_config: examples/workflow.c build/librights.a build/rights.h build/rights.pc | c-tools
-	$(CC) $< $$(PKG_CONFIG_PATH=build pkg-config --cflags --libs rights) -o $@
+# the example with the flags that pkg-config gives in an environment
+with_pkg_config = $(CC) $(WARNINGS) examples/workflow.c $$($1 pkg-config --cflags --libs rights) -o $@
+
+build/workflow_by_pkg_config: examples/workflow.c library | c-tools
+	$(call with_pkg_config,PKG_CONFIG_PATH=build)
+
+# installed in /opt/rights of a machine whose root is build/stage
+STAGE = build/stage
+STAGED = DESTDIR=$(STAGE) PREFIX=/opt/rights
+
+build/workflow_installed: examples/workflow.c library | c-tools
+	rm -rf $(STAGE)
+	$(MAKE) install $(STAGED)
+	$(call with_pkg_config,PKG_CONFIG_SYSROOT_DIR=$(STAGE) PKG_CONFIG_PATH=$(STAGE)/opt/rights/lib/pkgconfig)
 
 build/fuzz: fuzz/fuzz.c tests/coverage.c $(BOTH_AND_LIB) $(HEADERS) | build fuzz-tools
 	$(CLANG) $(CFLAGS) $(SANITIZE) -fsanitize=fuzzer $(filter %.c %.a,$^) -o $@
@@ -81,6 +131,8 @@ test:
 	.ci/run
 
 check-c: $(PROGRAMS) build/from_cpp check-cases-data
+	build/header
+	grep -F "It prints \`$$(build/first)\`" README.md
 	build/worked_cases
 	build/from_cpp
 	build/workflow | diff examples/workflow.stdout -
@@ -89,6 +141,11 @@ check-c: $(PROGRAMS) build/from_cpp check-cases-data
 
 check-pkg-config: build/workflow_by_pkg_config
 	build/workflow_by_pkg_config | diff examples/workflow.stdout -
+
+check-install: build/workflow_installed
+	build/workflow_installed | diff examples/workflow.stdout -
+	$(MAKE) uninstall $(STAGED)
+	test -z "$$(find $(STAGE) -type f)"
 
 stack-use: build/stack_use
 	build/stack_use
@@ -115,5 +172,5 @@ reading-lines:
 clean:
 	rm -rf build
 
-.PHONY: library c-tools fuzz-tools demo test check-c check-pkg-config stack-use bench fuzz cases-data \
-	check-cases-data reading-lines clean
+.PHONY: library install uninstall c-tools fuzz-tools demo test check-c check-pkg-config check-install stack-use bench \
+	fuzz cases-data check-cases-data reading-lines clean

@@ -60,7 +60,7 @@ static void shuffle(struct source *source, unsigned *names, unsigned n)
 /* A both of two eithers, each of half of the names; an either where codes are few. */
 static struct term mixed_tree(struct source *source, unsigned n, unsigned codes)
 {
-    unsigned names[12];
+    unsigned names[NAMES];
     shuffle(source, names, n);
     if (codes < 7)
         return tree(source, EITHER, names, n, codes);
@@ -74,7 +74,7 @@ static struct term mixed_tree(struct source *source, unsigned n, unsigned codes)
 
 static void add_job_grant(struct source *source, struct ledger *ledger, struct job job)
 {
-    unsigned names[12], left = job.n / 2, right = job.n >= 8 ? job.n / 4 : 1;
+    unsigned names[NAMES], left = job.n / 2, right = job.n >= 8 ? job.n / 4 : 1;
     shuffle(source, names, job.n);
     struct term p = tree(source, BOTH, names, left, job.codes);
     struct term q = tree(source, EITHER, names + left, right, job.codes);
@@ -170,13 +170,11 @@ static struct times measure(const struct request *request)
     return best;
 }
 
-enum { YES, NO };
-
 /* Both engines give the same number, of this kind. */
 static void expect_kind(const char *what, const struct request *request, unsigned kind)
 {
     uint32_t library = perform(&library_engine, request), reference = perform(&reference_engine, request);
-    if (library == reference && library >> 16 == kind)
+    if (library == reference && library / PER_KIND == kind)
         return;
     printf("%s: library %lu, reference %lu, not kind %u\n", what, (unsigned long)library, (unsigned long)reference,
            kind);
@@ -205,10 +203,10 @@ static unsigned sound_coalitions(struct call *call)
     static uint8_t buffer[BUFFER_ROOM];
     unsigned sound = 0;
     call->operation = EXTRACT;
-    call->buffer_length = 1024;
+    call->buffer_length = EXTRACT_SIZE;
     struct request request = request_of(call, buffer);
     perform(&reference_engine, &request);
-    for (unsigned c = 0; c < 4096; c++)
+    for (unsigned c = 0; c < 1u << NAMES; c++)
         sound += buffer[c / 8] >> c % 8 & 1;
     return sound;
 }
@@ -251,7 +249,7 @@ static void set_short_form(struct call *call, const struct job *job)
     struct source source = {8};
     call->operation = SHORT_FORM;
     call->p = mixed_tree(&source, job->n, job->codes);
-    call->buffer_length = 16388;
+    call->buffer_length = SHORT_FORM_LEAST;
 }
 
 static void print_job(struct job job)
@@ -267,7 +265,7 @@ static void print_job(struct job job)
     set_no(&call, &job);
     print_line("acts-for, no", &call, NO);
     call.operation = EXTRACT;
-    call.buffer_length = 1024;
+    call.buffer_length = EXTRACT_SIZE;
     print_line("extract", &call, YES);
     call.operation = DERIVATION;
     print_line("64-step derivation", &call, YES);
@@ -299,7 +297,7 @@ static void print_growth_with_grants(void)
 static void print_growth_with_names(void)
 {
     print_head("16 grants, 9 codes, by names");
-    for (unsigned n = 2; n <= 12; n++) {
+    for (unsigned n = 2; n <= NAMES; n++) {
         struct job job = {n, 16, 9};
         print_growth_line(job, "names", n);
     }
@@ -309,7 +307,7 @@ int main(void)
 {
     print_job((struct job){4, 8, 5});
     print_job((struct job){8, 20, 9});
-    print_job((struct job){12, 64, 63});
+    print_job((struct job){NAMES, GRANTS, 63});
     print_growth_with_grants();
     print_growth_with_names();
     return 0;

@@ -71,45 +71,6 @@ static void add_grant(struct ledger *ledger, struct term p, struct term q, struc
 
 static const char *const side_words[] = {"see", "change"};
 
-static const char *refusal_words(unsigned refusal)
-{
-    switch (refusal) {
-    case RIGHTS_TERM_LENGTH: return "the term has no codes, or over 64";
-    case RIGHTS_TERM_CODE: return "the term has a byte that is no code, or an unknown name";
-    case RIGHTS_TERM_ENDS: return "the term ends too early";
-    case RIGHTS_TERM_LEFT_OVER: return "codes are left after the term";
-    case RIGHTS_NAMES: return "a job has 1 to 12 names";
-    case RIGHTS_SHORT_FORM_BUFFER: return "the buffer for the short form is too short";
-    case RIGHTS_LEDGER_LENGTH: return "the ledger's length is wrong";
-    case RIGHTS_LEDGER_CHECK: return "a check of the ledger fails";
-    case RIGHTS_LEDGER_HEADER: return "the ledger's first block is malformed";
-    case RIGHTS_LEDGER_GRANT: return "a grant's block is malformed";
-    case RIGHTS_LEDGER_TERM: return "a grant has a malformed term";
-    case RIGHTS_P_LENGTH: return "p has no codes, or over 64";
-    case RIGHTS_P_CODE: return "p has a byte that is no code, or an unknown name";
-    case RIGHTS_P_ENDS: return "p ends too early";
-    case RIGHTS_P_LEFT_OVER: return "codes are left after p";
-    case RIGHTS_Q_LENGTH: return "q has no codes, or over 64";
-    case RIGHTS_Q_CODE: return "q has a byte that is no code, or an unknown name";
-    case RIGHTS_Q_ENDS: return "q ends too early";
-    case RIGHTS_Q_LEFT_OVER: return "codes are left after q";
-    case RIGHTS_LABEL_LENGTH: return "the label has no codes, or over 64";
-    case RIGHTS_LABEL_CODE: return "the label has a byte that is no code, or an unknown name";
-    case RIGHTS_LABEL_ENDS: return "the label ends too early";
-    case RIGHTS_LABEL_LEFT_OVER: return "codes are left after the label";
-    case RIGHTS_EXTRACT_BUFFER: return "an extract takes a buffer of 1,024 bytes";
-    case RIGHTS_DERIVATION_LENGTH: return "the derivation's length is wrong";
-    case RIGHTS_STEP_FORM: return "the step is malformed";
-    case RIGHTS_STEP_P: return "the step's p is no term";
-    case RIGHTS_STEP_Q: return "the step's q is no term";
-    case RIGHTS_STEP_PREMISE: return "a premise is not an earlier step";
-    case RIGHTS_STEP_GRANT: return "there is no such grant";
-    case RIGHTS_STEP_NOT_COUNTING: return "the grant doesn't count under this label";
-    case RIGHTS_STEP_RULE: return "the step doesn't follow by its rule";
-    default: return "for a reason this program doesn't know";
-    }
-}
-
 static char letter(unsigned name)
 {
     return (char)('A' + name);
@@ -191,18 +152,24 @@ static void print_answer(uint32_t answer)
         fputs("refused", stdout);
         if (rights_refusal_of(answer) >= RIGHTS_STEP_FORM)
             printf(" at step %u", rights_step_of(answer));
-        printf(": %s\n", refusal_words(rights_refusal_of(answer)));
+        printf(": %s\n", rights_refusal_text(rights_refusal_of(answer)));
     }
 }
 
 /* ---- Asking ---- */
 
-static void ask_acts_for(const struct ledger *ledger, struct term p, struct term q, struct term label)
+/* Prints the beginning of a question. */
+static void print_question(const struct term *p, const char *verb, const struct term *q)
 {
     fputs("  does ", stdout);
-    print_term(&p);
-    fputs(" act for ", stdout);
-    print_term(&q);
+    print_term(p);
+    printf(" %s ", verb);
+    print_term(q);
+}
+
+static void ask_acts_for(const struct ledger *ledger, struct term p, struct term q, struct term label)
+{
+    print_question(&p, "act for", &q);
     fputs(", under ", stdout);
     print_term(&label);
     fputs("?  ", stdout);
@@ -212,10 +179,7 @@ static void ask_acts_for(const struct ledger *ledger, struct term p, struct term
 
 static void ask_flows_to(const struct ledger *ledger, struct term p, struct term q, struct term label)
 {
-    fputs("  does ", stdout);
-    print_term(&p);
-    fputs(" flow to ", stdout);
-    print_term(&q);
+    print_question(&p, "flow to", &q);
     fputs("?  ", stdout);
     print_answer(rights_flows_to(ledger->bytes, ledger->length, p.codes, p.length, q.codes, q.length,
                                  label.codes, label.length));

@@ -73,7 +73,7 @@ static struct term take_good_term(struct input *in, unsigned n)
 
 static struct term take_term(struct input *in, unsigned n)
 {
-    return take(in) < 240 && n <= 12 ? take_good_term(in, n) : take_any_bytes(in);
+    return take(in) < 240 && n <= NAMES ? take_good_term(in, n) : take_any_bytes(in);
 }
 
 /* ---- Ledgers and derivations ---- */
@@ -173,17 +173,17 @@ static void take_call(struct input *in, struct call *call)
     memset(call, 0, sizeof *call);
     call->operation = (enum operation)(take(in) % C_OPERATIONS);
     call->fill = take(in);
-    unsigned n = 1 + take_below(in, 12);
+    unsigned n = 1 + take_below(in, NAMES);
     if (call->operation == SHORT_FORM) {
         call->number = n < 256 ? n : take_eight(in);
         call->p = take_term(in, n);
-        call->buffer_length = take_buffer_length(in, 16388);
+        call->buffer_length = take_buffer_length(in, SHORT_FORM_LEAST);
         return;
     }
     take_ledger(in, &call->ledger, n);
     call->label = take_term(in, n);
     if (call->operation == EXTRACT) {
-        call->buffer_length = take_buffer_length(in, 1024);
+        call->buffer_length = take_buffer_length(in, EXTRACT_SIZE);
     } else if (call->operation == DERIVATION) {
         take_derivation(in, &call->ledger, &call->derivation, n);
     } else {

@@ -49,6 +49,13 @@
 extern "C" {
 #endif
 
+/*
+ * The version, for #if; rights.pc has the same. It grows by 1 whenever a call, a form or a number of this
+ * header changes its meaning, or a new one comes. 1 is the first: where there is no such macro, #if takes it
+ * for 0.
+ */
+#define RIGHTS_VERSION 1
+
 /* Sizes, in bytes unless said otherwise. */
 #define RIGHTS_NAMES_MAX 12        /* names of a job */
 #define RIGHTS_TERM_MAX 64         /* a term */
@@ -179,46 +186,89 @@ uint32_t rights_check_derivation(const uint8_t *derivation, size_t derivation_le
                                  const uint8_t *ledger, size_t ledger_len,
                                  const uint8_t *label, size_t label_len);
 
+/* The parts of an answer. That this arithmetic gives them back is proved: docs/READING.md says where. */
+
 /* An answer's kind, an enum rights_kind. */
 static inline unsigned rights_kind_of(uint32_t answer)
 {
-    return answer >> 16;
+    return answer / 65536;
 }
 
 /* Of a no: the side, an enum rights_side. */
 static inline unsigned rights_side_of(uint32_t answer)
 {
-    return answer >> 12 & 1;
+    return answer / 4096 % 2;
 }
 
 /* Of a no: the coalition. Name i is a member if bit i is set. */
 static inline unsigned rights_coalition_of(uint32_t answer)
 {
-    return answer & 0xFFF;
+    return answer % 4096;
 }
 
 /* Of a refusal: the reason, an enum rights_refusal. */
 static inline unsigned rights_refusal_of(uint32_t answer)
 {
-    return answer & 0xFF;
+    return answer % 256;
 }
 
 /* Of a refusal 61 to 67: the step, from 0. For other refusals 0. */
 static inline unsigned rights_step_of(uint32_t answer)
 {
-    return answer >> 8 & 0xFF;
+    return answer / 256 % 256;
 }
 
 /* Of a short form that was written: its length. */
 static inline size_t rights_length_of(uint32_t answer)
 {
-    return answer & 0xFFFF;
+    return answer % 65536;
 }
 
 /* Is the coalition, 0 to 4095, sound on the side, by an extract that was written? */
 static inline int rights_extract_has(const uint8_t *extract, unsigned side, unsigned coalition)
 {
     return extract[512 * side + coalition / 8] >> coalition % 8 & 1;
+}
+
+/* What a refusal says, for a person. Every number of enum rights_refusal has a text of its own, all others
+ * one in common. */
+static inline const char *rights_refusal_text(unsigned refusal)
+{
+    switch (refusal) {
+    case RIGHTS_TERM_LENGTH: return "the term has no codes, or over 64";
+    case RIGHTS_TERM_CODE: return "the term has a byte that is no code, or an unknown name";
+    case RIGHTS_TERM_ENDS: return "the term ends too early";
+    case RIGHTS_TERM_LEFT_OVER: return "codes are left after the term";
+    case RIGHTS_NAMES: return "a job has 1 to 12 names";
+    case RIGHTS_SHORT_FORM_BUFFER: return "the buffer for the short form is too short";
+    case RIGHTS_LEDGER_LENGTH: return "the ledger's length is wrong";
+    case RIGHTS_LEDGER_CHECK: return "a check of the ledger fails";
+    case RIGHTS_LEDGER_HEADER: return "the ledger's first block is malformed";
+    case RIGHTS_LEDGER_GRANT: return "a grant's block is malformed";
+    case RIGHTS_LEDGER_TERM: return "a grant has a malformed term";
+    case RIGHTS_P_LENGTH: return "p has no codes, or over 64";
+    case RIGHTS_P_CODE: return "p has a byte that is no code, or an unknown name";
+    case RIGHTS_P_ENDS: return "p ends too early";
+    case RIGHTS_P_LEFT_OVER: return "codes are left after p";
+    case RIGHTS_Q_LENGTH: return "q has no codes, or over 64";
+    case RIGHTS_Q_CODE: return "q has a byte that is no code, or an unknown name";
+    case RIGHTS_Q_ENDS: return "q ends too early";
+    case RIGHTS_Q_LEFT_OVER: return "codes are left after q";
+    case RIGHTS_LABEL_LENGTH: return "the label has no codes, or over 64";
+    case RIGHTS_LABEL_CODE: return "the label has a byte that is no code, or an unknown name";
+    case RIGHTS_LABEL_ENDS: return "the label ends too early";
+    case RIGHTS_LABEL_LEFT_OVER: return "codes are left after the label";
+    case RIGHTS_EXTRACT_BUFFER: return "an extract takes a buffer of 1,024 bytes";
+    case RIGHTS_DERIVATION_LENGTH: return "the derivation's length is wrong";
+    case RIGHTS_STEP_FORM: return "the step is malformed";
+    case RIGHTS_STEP_P: return "the step's p is no term";
+    case RIGHTS_STEP_Q: return "the step's q is no term";
+    case RIGHTS_STEP_PREMISE: return "a premise is not an earlier step";
+    case RIGHTS_STEP_GRANT: return "there is no such grant";
+    case RIGHTS_STEP_NOT_COUNTING: return "the grant doesn't count under this label";
+    case RIGHTS_STEP_RULE: return "the step doesn't follow by its rule";
+    default: return "a reason that this rights.h doesn't know";
+    }
 }
 
 #ifdef __cplusplus

@@ -4,14 +4,12 @@
  */
 #include "reference.h"
 
+#include "numbers.h"
+
 #include <stdbool.h>
 #include <string.h>
 
 /* ---- Terms ---- */
-
-enum { STRONGEST = 0x20, WEAKEST = 0x21, BOTH = 0x30, EITHER = 0x31, SEE_OF = 0x40, CHANGE_OF = 0x41 };
-
-enum side { SEE, CHANGE };
 
 struct term {
     const uint8_t *codes;
@@ -42,14 +40,19 @@ static unsigned read_part(unsigned n, struct term term, size_t *at)
     case SEE_OF:
     case CHANGE_OF:
         return read_part(n, term, at);
-    default: /* a name, since n is at most 12, or no code */
+    default: /* a name, since n is at most NAMES, or no code */
         return code < n ? 0 : 2;
     }
 }
 
+static bool term_length(size_t length)
+{
+    return length >= 1 && length <= CODES;
+}
+
 static unsigned read_term(unsigned n, struct term term)
 {
-    if (term.length < 1 || term.length > 64)
+    if (!term_length(term.length))
         return 1;
     size_t at = 0;
     unsigned refusal = read_part(n, term, &at);
@@ -121,7 +124,7 @@ struct grant {
 struct grants {
     unsigned n;
     size_t count;
-    struct grant grant[64];
+    struct grant grant[GRANTS];
 };
 
 static bool visible(unsigned n, struct term d, struct term label)
@@ -192,12 +195,8 @@ static bool check_holds(const uint8_t *block)
 
 static bool header_formed(const uint8_t *block, size_t grants)
 {
-    return block[0] == 1 && block[1] >= 1 && block[1] <= 12 && two_bytes(block + 2) == grants && zeros(block, 4, 510);
-}
-
-static bool term_length(size_t length)
-{
-    return length >= 1 && length <= 64;
+    return block[0] == 1 && block[1] >= 1 && block[1] <= NAMES && two_bytes(block + 2) == grants
+        && zeros(block, 4, 510);
 }
 
 static bool grant_formed(const uint8_t *block)
@@ -221,18 +220,18 @@ static unsigned read_grant(unsigned n, const uint8_t *block, struct grant *grant
 
 static unsigned read_ledger(const uint8_t *ledger, size_t length, struct grants *grants)
 {
-    if (length % 512 != 0 || length < 512 || length > 33280)
+    if (length % BLOCK != 0 || length < BLOCK || length > LEDGER_MOST)
         return 10;
-    for (size_t at = 0; at < length; at += 512)
+    for (size_t at = 0; at < length; at += BLOCK)
         if (!check_holds(ledger + at))
             return 11;
-    size_t count = length / 512 - 1;
+    size_t count = length / BLOCK - 1;
     if (!header_formed(ledger, count))
         return 12;
     grants->n = ledger[1];
     grants->count = count;
     for (size_t i = 0; i < count; i++) {
-        unsigned refusal = read_grant(grants->n, ledger + 512 * (i + 1), &grants->grant[i]);
+        unsigned refusal = read_grant(grants->n, ledger + BLOCK * (i + 1), &grants->grant[i]);
         if (refusal)
             return refusal;
     }
@@ -241,24 +240,24 @@ static unsigned read_ledger(const uint8_t *ledger, size_t length, struct grants 
 
 /* ---- Numbers for C ---- */
 
-static uint32_t yes(void)
-{
-    return 0;
-}
-
 static uint32_t written(size_t length)
 {
-    return (uint32_t)length;
+    return YES * PER_KIND + (uint32_t)length;
+}
+
+static uint32_t yes(void)
+{
+    return written(0);
 }
 
 static uint32_t no(enum side side, unsigned coalition)
 {
-    return 1 * 65536 + (uint32_t)side * 4096 + coalition;
+    return NO * PER_KIND + (uint32_t)side * PER_SIDE + coalition;
 }
 
 static uint32_t refused_at(size_t step, unsigned refusal)
 {
-    return 2 * 65536 + (uint32_t)step * 256 + refusal;
+    return REFUSED * PER_KIND + (uint32_t)step * PER_STEP + refusal;
 }
 
 static uint32_t refused(unsigned refusal)
@@ -328,7 +327,7 @@ uint32_t reference_flows_to(const uint8_t *ledger, size_t ledger_len, const uint
 
 static void write_extract(const struct grants *counting, uint8_t *buffer)
 {
-    memset(buffer, 0, 1024);
+    memset(buffer, 0, EXTRACT_SIZE);
     for (enum side side = SEE; side <= CHANGE; side++)
         for (unsigned c = 0; c < coalitions(counting->n); c++)
             if (sound(counting, side, c))
@@ -340,7 +339,7 @@ uint32_t reference_extract(const uint8_t *ledger, size_t ledger_len, const uint8
 {
     struct grants grants;
     struct term tl = term_at(label, label_len);
-    if (buffer_len != 1024)
+    if (buffer_len != EXTRACT_SIZE)
         return refused(51);
     unsigned refusal = read_ledger(ledger, ledger_len, &grants);
     if (!refusal)
@@ -375,7 +374,7 @@ static size_t put_two_bytes(uint8_t *buffer, size_t at, unsigned value)
 /* Writes one side's count and minimal coalitions from place `at` on, and gives the place behind them. */
 static size_t write_minimal(unsigned n, struct term term, enum side side, uint8_t *buffer, size_t at)
 {
-    bool holds[4096];
+    bool holds[1 << NAMES];
     unsigned count = 0;
     size_t end = at + 2;
     for (unsigned c = 0; c < coalitions(n); c++)
@@ -391,9 +390,9 @@ static size_t write_minimal(unsigned n, struct term term, enum side side, uint8_
 
 uint32_t reference_short_form(uint64_t n, const uint8_t *term, size_t term_len, uint8_t *buffer, size_t buffer_len)
 {
-    if (n < 1 || n > 12)
+    if (n < 1 || n > NAMES)
         return refused(7);
-    if (buffer_len < 16388)
+    if (buffer_len < SHORT_FORM_LEAST)
         return refused(8);
     unsigned names = (unsigned)n;
     struct term t = term_at(term, term_len);
@@ -408,7 +407,7 @@ uint32_t reference_short_form(uint64_t n, const uint8_t *term, size_t term_len, 
 
 static const uint8_t *step_at(const uint8_t *derivation, size_t step)
 {
-    return derivation + 136 * step;
+    return derivation + STEP * step;
 }
 
 static struct term left_of(const uint8_t *step)
@@ -443,7 +442,7 @@ static bool step_formed(const uint8_t *step)
         && (uses_first_premise(rule) || step[1] == 0)
         && (uses_second_premise(rule) || step[2] == 0)
         && (uses_grant(rule) || step[3] == 0)
-        && zeros(step, 6, 8) && zeros(step, 8u + step[4], 72) && zeros(step, 72u + step[5], 136);
+        && zeros(step, 6, 8) && zeros(step, 8u + step[4], 72) && zeros(step, 72u + step[5], STEP);
 }
 
 static bool same(struct term a, struct term b)
@@ -519,11 +518,11 @@ uint32_t reference_check_derivation(const uint8_t *derivation, size_t derivation
     unsigned refusal = read_ledger(ledger, ledger_len, &grants);
     if (!refusal)
         refusal = read_from(40, grants.n, tl);
-    if (!refusal && (derivation_len % 136 != 0 || derivation_len < 136 || derivation_len > 8704))
+    if (!refusal && (derivation_len % STEP != 0 || derivation_len < STEP || derivation_len > DERIVATION_MOST))
         refusal = 60;
     if (refusal)
         return refused(refusal);
-    for (size_t k = 0; k < derivation_len / 136; k++) {
+    for (size_t k = 0; k < derivation_len / STEP; k++) {
         refusal = check_step(derivation, k, &grants, tl);
         if (refusal)
             return refused_at(k, refusal);
@@ -538,12 +537,12 @@ struct reference_part reference_quote(const uint8_t *derivation, size_t derivati
     struct reference_part part = {0, 0};
     if (reference_check_derivation(derivation, derivation_len, ledger, ledger_len, label, label_len) != yes())
         return part;
-    if (step >= derivation_len / 136)
+    if (step >= derivation_len / STEP)
         return part;
     const uint8_t *named = step_at(derivation, (size_t)step);
     if (named[0] != 2)
         return part;
-    part.offset = 512 * ((size_t)named[3] + 1);
-    part.length = 512;
+    part.offset = BLOCK * ((size_t)named[3] + 1);
+    part.length = BLOCK;
     return part;
 }

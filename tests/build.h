@@ -5,21 +5,16 @@
 #ifndef BUILD_H
 #define BUILD_H
 
+#include "numbers.h"
+
 #include <stddef.h>
 #include <stdint.h>
 
 enum {
-    BLOCK = 512,
-    GRANTS = 64,
-    STEP = 136,
-    STEPS = 64,
-    CODES = 64,
     TERM_ROOM = 400,
     LEDGER_ROOM = 67 * BLOCK,
     DERIVATION_ROOM = 66 * STEP
 };
-
-enum code { STRONGEST = 0x20, WEAKEST = 0x21, BOTH = 0x30, EITHER = 0x31, SEE_OF = 0x40, CHANGE_OF = 0x41 };
 
 struct term {
     size_t length;

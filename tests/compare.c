@@ -194,7 +194,7 @@ static void good_call(struct call *call, enum operation operation)
     call->operation = operation;
     call->p = call->q = call->label = term_of(name, 1);
     call->number = 2;
-    call->buffer_length = operation == EXTRACT ? 1024 : 16388;
+    call->buffer_length = operation == EXTRACT ? EXTRACT_SIZE : SHORT_FORM_LEAST;
     start_ledger(&call->ledger, 2);
     add_step(&call->derivation, 1, 0, 0, 0, &call->p, &call->q);
 }

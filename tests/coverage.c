@@ -1,7 +1,5 @@
 #include "coverage.h"
 
-#include <stdbool.h>
-
 /* The refusals of each operation, as document 01 lists them; 0 ends a list. */
 static const uint8_t refusals[OPERATIONS][24] = {
     [ACTS_FOR] = {10, 11, 12, 13, 14, 21, 22, 23, 24, 31, 32, 33, 34, 41, 42, 43, 44},
@@ -11,14 +9,23 @@ static const uint8_t refusals[OPERATIONS][24] = {
     [DERIVATION] = {10, 11, 12, 13, 14, 41, 42, 43, 44, 60, 61, 62, 63, 64, 65, 66, 67},
 };
 
+bool is_refusal(unsigned number)
+{
+    for (unsigned operation = 0; operation < OPERATIONS; operation++)
+        for (const uint8_t *r = refusals[operation]; *r != 0; r++)
+            if (*r == number)
+                return true;
+    return false;
+}
+
 void count_answer(struct coverage *coverage, enum operation operation, uint32_t number)
 {
-    if (number >> 16 == 0)
+    if (number / PER_KIND == YES)
         coverage->yes[operation]++;
-    else if (number >> 16 == 1)
-        coverage->no[operation][number >> 12 & 1]++;
+    else if (number / PER_KIND == NO)
+        coverage->no[operation][number / PER_SIDE % 2]++;
     else
-        coverage->refused[operation][number & 255]++;
+        coverage->refused[operation][number % PER_STEP]++;
 }
 
 void count_quote(struct coverage *coverage, size_t length)

@@ -6,6 +6,7 @@
 
 #include "calls.h"
 
+#include <stdbool.h>
 #include <stdio.h>
 
 struct coverage {
@@ -13,6 +14,9 @@ struct coverage {
     unsigned long no[OPERATIONS][2]; /* by side; of quoting the first: an empty part */
     unsigned long refused[OPERATIONS][256];
 };
+
+/* Is this the number of a refusal, of any operation? */
+bool is_refusal(unsigned number);
 
 /* Counts the answer that an operation of C gave. */
 void count_answer(struct coverage *coverage, enum operation operation, uint32_t number);

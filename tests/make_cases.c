@@ -76,9 +76,9 @@ static struct result quoted(const struct request *r)
 static struct result answered(const struct request *r)
 {
     struct result result = {perform(&reference_engine, r), 0};
-    bool written = result.number >> 16 == 0;
+    bool written = result.number / PER_KIND == YES;
     if (written && r->operation == EXTRACT)
-        result.length = 1024;
+        result.length = EXTRACT_SIZE;
     if (written && r->operation == SHORT_FORM)
         result.length = (size_t)result.number;
     return result;

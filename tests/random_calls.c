@@ -56,7 +56,7 @@ static unsigned random_names(struct source *s)
         return between(s, 1, 5);
     if (draw < 225)
         return between(s, 3, 8);
-    return draw < 250 ? between(s, 8, 10) : between(s, 11, 12);
+    return draw < 250 ? between(s, 8, 10) : between(s, 11, NAMES);
 }
 
 /* ---- Terms ---- */
@@ -299,18 +299,19 @@ static size_t bad_length(struct source *s, const uint16_t lengths[8], size_t len
     return draw < 10 || length == 0 ? length + 1 : length - 1;
 }
 
-static size_t bad_ledger_length(struct source *s, size_t length)
+/* Bytes that the builder didn't write, where it gets longer, are 00. */
+static void spoil_length(struct source *s, const uint16_t lengths[8], uint8_t *bytes, size_t *length)
 {
-    static const uint16_t lengths[8] = {0, 1, 511, 513, 33279, 33281, 33792, 34304};
-    return bad_length(s, lengths, length);
+    size_t before = *length;
+    *length = bad_length(s, lengths, before);
+    if (*length > before)
+        memset(bytes + before, 0, *length - before);
 }
 
-/* Bytes that the builder didn't write, in a ledger made longer, are 00. */
-static void set_ledger_length(struct ledger *ledger, size_t length)
+static void spoil_ledger_length(struct source *s, struct ledger *ledger)
 {
-    if (length > ledger->length)
-        memset(ledger->bytes + ledger->length, 0, length - ledger->length);
-    ledger->length = length;
+    static const uint16_t lengths[8] = {0, 1, 511, 513, 33279, 33281, 33792, 34304};
+    spoil_length(s, lengths, ledger->bytes, &ledger->length);
 }
 
 static void damage_header(struct source *s, uint8_t *block)
@@ -410,7 +411,7 @@ static void damage_ledger(struct source *s, struct ledger *ledger, unsigned n)
     block = below(s, blocks);
     switch (below(s, 8)) {
     case 0:
-        set_ledger_length(ledger, bad_ledger_length(s, ledger->length));
+        spoil_ledger_length(s, ledger);
         break;
     case 1:
         damage_check(block_of(ledger, block));
@@ -637,17 +638,10 @@ static void random_derivation(struct source *s, struct call *call, unsigned n)
 
 /* ---- Damaged derivations ---- */
 
-static size_t bad_derivation_length(struct source *s, size_t length)
+static void spoil_derivation_length(struct source *s, struct derivation *d)
 {
     static const uint16_t lengths[8] = {0, 1, 135, 137, 8703, 8705, 8840, 8976};
-    return bad_length(s, lengths, length);
-}
-
-static void set_derivation_length(struct derivation *d, size_t length)
-{
-    if (length > d->length)
-        memset(d->bytes + d->length, 0, length - d->length);
-    d->length = length;
+    spoil_length(s, lengths, d->bytes, &d->length);
 }
 
 /* A byte that a good step has 00 in: 6, 7, or past p or q; where a term is full, byte 6. */
@@ -726,7 +720,7 @@ static void damage_derivation(struct source *s, struct derivation *d, unsigned n
 {
     unsigned steps = (unsigned)step_count(d), step;
     if (steps == 0 || one_in(s, 8)) {
-        set_derivation_length(d, bad_derivation_length(s, d->length));
+        spoil_derivation_length(s, d);
         return;
     }
     step = below(s, steps);
@@ -775,7 +769,7 @@ static void random_short_form(struct source *s, struct call *call)
     unsigned n = random_names(s);
     call->number = n;
     call->p = one_in(s, 3) ? many_ways(s, n) : random_term(s, n, random_size(s));
-    call->buffer_length = one_in(s, 2) ? 16388 : between(s, 16389, BUFFER_ROOM);
+    call->buffer_length = one_in(s, 2) ? SHORT_FORM_LEAST : between(s, SHORT_FORM_LEAST + 1, BUFFER_ROOM);
     if (one_in(s, 12))
         call->number = bad_names[below(s, sizeof bad_names / sizeof *bad_names)];
     if (one_in(s, 12))
@@ -787,7 +781,7 @@ static void random_short_form(struct source *s, struct call *call)
 static void random_extract(struct source *s, struct call *call)
 {
     static const uint16_t bad_lengths[] = {0, 1, 512, 1023, 1025, 2048, 16388};
-    call->buffer_length = 1024;
+    call->buffer_length = EXTRACT_SIZE;
     if (one_in(s, 16))
         call->buffer_length = bad_lengths[below(s, sizeof bad_lengths / sizeof *bad_lengths)];
 }

@@ -60,9 +60,9 @@ static void deepest_call(enum operation operation, struct call *call)
     memset(call, 0, sizeof *call);
     call->operation = operation;
     call->p = call->q = call->label = term;
-    call->number = 12;
-    call->buffer_length = operation == EXTRACT ? 1024 : 16388;
-    start_ledger(&call->ledger, 12);
+    call->number = NAMES;
+    call->buffer_length = operation == EXTRACT ? EXTRACT_SIZE : SHORT_FORM_LEAST;
+    start_ledger(&call->ledger, NAMES);
     for (unsigned i = 0; i < GRANTS; i++)
         add_grant(&call->ledger, &term, &term, &term);
     for (unsigned i = 0; i < STEPS; i++)

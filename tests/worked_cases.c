@@ -50,11 +50,19 @@ static uint32_t ask(question_call *question, const struct ledger *ledger, const 
     return question(ledger->bytes, ledger->length, tp.codes, tp.length, tq.codes, tq.length, tl.codes, tl.length);
 }
 
-enum { YES = 0, NO = 65536, SIDE = 4096, REFUSED = 131072 };
+static uint32_t yes(void)
+{
+    return YES * PER_KIND;
+}
 
 static uint32_t no_on_see_side(unsigned coalition)
 {
-    return NO + 0 * SIDE + coalition;
+    return NO * PER_KIND + SEE * PER_SIDE + coalition;
+}
+
+static uint32_t refused(unsigned refusal)
+{
+    return REFUSED * PER_KIND + refusal;
 }
 
 static bool check_is(const struct ledger *ledger, unsigned block, uint8_t high, uint8_t low)
@@ -73,13 +81,13 @@ static void checks_of_the_ledgers(const struct engine *e)
 static void cases_of_acts_for(const struct engine *e)
 {
     struct ledger p = plain(), l = granted("41 01"), g = granted("41 00");
-    expect(e, "A", ask(e->acts_for, &p, "21", "31 40 00 41 01", "21") == YES);
-    expect(e, "A", ask(e->acts_for, &p, "31 40 00 41 01", "21", "21") == YES);
-    expect(e, "B", ask(e->acts_for, &p, "30 00 01", "00", "21") == YES);
+    expect(e, "A", ask(e->acts_for, &p, "21", "31 40 00 41 01", "21") == yes());
+    expect(e, "A", ask(e->acts_for, &p, "31 40 00 41 01", "21", "21") == yes());
+    expect(e, "B", ask(e->acts_for, &p, "30 00 01", "00", "21") == yes());
     expect(e, "C", ask(e->acts_for, &p, "31 00 01", "00", "21") == no_on_see_side(2));
-    expect(e, "D", ask(e->acts_for, &p, "20", "00", "21") == YES);
+    expect(e, "D", ask(e->acts_for, &p, "20", "00", "21") == yes());
     expect(e, "D", ask(e->acts_for, &p, "21", "20", "21") == no_on_see_side(0));
-    expect(e, "E", ask(e->acts_for, &l, "00", "01", "41 01") == YES);
+    expect(e, "E", ask(e->acts_for, &l, "00", "01", "41 01") == yes());
     expect(e, "F", ask(e->acts_for, &l, "00", "01", "00") == no_on_see_side(1));
     expect(e, "G", ask(e->acts_for, &g, "00", "01", "21") == no_on_see_side(1));
 }
@@ -87,18 +95,18 @@ static void cases_of_acts_for(const struct engine *e)
 static void cases_of_flows_to(const struct engine *e)
 {
     struct ledger p = plain();
-    expect(e, "I", ask(e->flows_to, &p, "40 00", "40 30 00 01", "21") == YES);
+    expect(e, "I", ask(e->flows_to, &p, "40 00", "40 30 00 01", "21") == yes());
     expect(e, "J", ask(e->flows_to, &p, "40 30 00 01", "40 00", "21") == no_on_see_side(1));
 }
 
 /* Bytes 0 and 512 have this value, the rest is 00. */
 static bool extract_is(const struct engine *e, const struct ledger *ledger, uint8_t value)
 {
-    uint8_t buffer[1024], expected[1024] = {0};
+    uint8_t buffer[EXTRACT_SIZE], expected[EXTRACT_SIZE] = {0};
     struct term label = codes("41 01");
     memset(buffer, 0xAA, sizeof buffer);
     expected[0] = expected[512] = value;
-    return e->extract(ledger->bytes, ledger->length, label.codes, label.length, buffer, sizeof buffer) == YES
+    return e->extract(ledger->bytes, ledger->length, label.codes, label.length, buffer, sizeof buffer) == yes()
         && memcmp(buffer, expected, sizeof buffer) == 0;
 }
 
@@ -112,7 +120,7 @@ static void case_of_extract(const struct engine *e)
 /* The short form is the expected bytes, and the bytes after them are kept. */
 static bool short_form_is(const struct engine *e, const char *term, const char *expected)
 {
-    static uint8_t buffer[16388], after[16388];
+    static uint8_t buffer[SHORT_FORM_LEAST], after[SHORT_FORM_LEAST];
     struct term t = codes(term), bytes = codes(expected);
     memset(buffer, 0xAA, sizeof buffer);
     memset(after, 0xAA, sizeof after);
@@ -131,9 +139,9 @@ static void cases_of_short_form(const struct engine *e)
 /* The refusal of a term in a job of two names; 0 if it passes. */
 static uint32_t refusal_of_term(const struct engine *e, const struct term *t)
 {
-    static uint8_t buffer[16388];
+    static uint8_t buffer[SHORT_FORM_LEAST];
     uint32_t number = e->short_form(2, t->codes, t->length, buffer, sizeof buffer);
-    return number < REFUSED ? 0 : number - REFUSED;
+    return number / PER_KIND == REFUSED ? number % PER_KIND : 0;
 }
 
 static struct term nested(unsigned projections)
@@ -163,9 +171,9 @@ static void case_of_refusals(const struct engine *e)
     expect(e, "L", refusal_of_term(e, &early) == 3);
     expect(e, "L", refusal_of_term(e, &left_over) == 4);
     expect(e, "L", refusal_of_term(e, &unjudged) == 4);
-    expect(e, "L", asked_of_length(e, 0) == REFUSED + 10);
-    expect(e, "L", asked_of_length(e, 513) == REFUSED + 10);
-    expect(e, "L", asked_of_length(e, 33792) == REFUSED + 10);
+    expect(e, "L", asked_of_length(e, 0) == refused(10));
+    expect(e, "L", asked_of_length(e, 513) == refused(10));
+    expect(e, "L", asked_of_length(e, 33792) == refused(10));
 }
 
 static void all_cases(const struct engine *e)

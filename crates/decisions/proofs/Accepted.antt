@@ -1,8 +1,8 @@
 -- What the promises on any bytes come to where the bytes are an accepted ledger and an accepted label. Assumes nothing.
-use mathlib.Core.Path.{_≡_, refl, sym, ap, ap₂, _∙_}
-use mathlib.Core.Bool.{Bool, true, false, _&&_}
+use mathlib.Core.Path.{_≡_, sym, ap, ap₂, _∙_}
+use mathlib.Core.Bool.{Bool, false, _&&_}
 use mathlib.Core.List.{List}
-use Prim.Native.Nat.{ℕ, zero, suc, _^_, _≤_, _<_, min}
+use Prim.Native.Nat.{ℕ, zero, suc, _^_, _≤_, _<_}
 use native.Mathlib.Nat.{zero-add, lt-of-lt-of-le}
 use native.Mathlib.Decide.{decLt}
 use native.Mathlib.Omega.{arith}
@@ -17,12 +17,11 @@ use Rattle.model.specs.Grants.{Grant, implies, every, counts, counting, keeps, 
 use Rattle.model.specs.Ledgers.{Ledger}
 use Rattle.model.specs.Questions.{soundUnder}
 use Rattle.model.specs.Extracts.{packed}
-use Rattle.model.specs.Derivations.{ofGrant, grantBlock}
+use Rattle.model.specs.Derivations.{ofGrant}
 use Rattle.model.proofs.Packed.{member-packed, packed-lt}
 use Rattle.model.proofs.Monotone.{member-past}
 use Rattle.model.proofs.Prefixes.{ofGrant-getD, ofGrant-past, sound-none, sound-more}
-use Rattle.model.proofs.Stands.{GrantStands, LedgerStands, ledger-stands}
-use Rattle.words.specs.AnyBytes.{termIn}
+use Rattle.model.proofs.Stands.{LedgerStands, ledger-stands}
 use Rattle.words.proofs.AnyBytes.{term-in}
 use Rattle.words.proofs.Packing.{packed-cong}
 use Rattle.decisions.specs.Promises.{jobOf, grantIn, countsIn, countingIn, soundIn, LedgerOf, countingMarks}

@@ -1,7 +1,7 @@
 -- What `hold` does at each code gives the words of the term that the bytes stand for. Assumes nothing.
 use mathlib.Core.Path.{_≡_, refl, sym, ap, ap₂, _∙_, subst}
 use mathlib.Core.Bool.{true, false}
-use mathlib.Core.List.{List, _∷_}
+use mathlib.Core.List.{List}
 use Prim.Native.Nat.{ℕ, suc, _+_, _*_, _≤_, _<_}
 use native.Mathlib.Numerals.{add-one}
 use native.Mathlib.Omega.{arith}
@@ -11,7 +11,6 @@ use lib.ListN.{length, drop, getD, drop-of-length-le}
 use lib.Seq.{drop-cons, drop-drop}
 use Rattle.model.specs.Answers.{Side, confidentiality, integrity}
 use Rattle.model.specs.Terms.{Term, name, top, bottom, conj, disj, project, Code, whole, one, two, none, codeOf, member, held}
-use Rattle.model.specs.Grants.{Marks}
 use Rattle.model.specs.Extracts.{packed}
 use Rattle.model.proofs.Reading.{code-name}
 use Rattle.words.specs.AnyBytes.{Taken, takeParts, taken, termIn}

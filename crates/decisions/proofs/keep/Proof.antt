@@ -1,5 +1,4 @@
 -- `decisions::keep` meets its contract. Assumes nothing.
-use mathlib.Core.Path.{_≡_}
 use Rattle.model.specs.Terms.{held}
 use Rattle.words.specs.Evaluation.{WordsAt}
 use Rattle.decisions.specs.Promises.{grantIn}

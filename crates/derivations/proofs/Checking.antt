@@ -22,7 +22,7 @@ use Rattle.terms.proofs.Accepted.{AcceptedTerm}
 use Rattle.ledgers.proofs.Accepted.{AcceptedLedger}
 use Rattle.terms.specs.declared.TermReading.{TermReading}
 use Rattle.terms.specs.declared.TermReading.the-variants.{Accepted as TermAccepted, Refused as TermRefused}
-use Rattle.decisions.specs.Promises.{countingIn, LedgerOf, countingMarks}
+use Rattle.counting.specs.Counted.{countedIn, LedgerOf}
 use Rattle.decisions.proofs.Accepted.{marks-say, counting-in}
 use Rattle.decisions.proofs.Asking.{ledger-of}
 use Rattle.derivations.specs.Steps.{readField, readStep, premisesBefore, Ready, meetsAt, checkAt, stepCheck}

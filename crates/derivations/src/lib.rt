@@ -66,23 +66,20 @@ fn code_then_two(s: &[u8], code: u8, a: &[u8], b: &[u8]) -> bool
 fn step_at(derivation: &[u8], k: usize) -> &[u8]
     ensures { λ r. ⌜ now r ≡ stepAt (now (derivation .entry)) k ⌝ }
 {
-    if derivation.len() / 136 < k {
-        return &derivation[..0];
-    }
-    ledgers::part(derivation, 136 * k, 136)
+    fields::piece(derivation, 136, k)
 }
 
 // A step's p and its q, parts of the step.
 fn left(step: &[u8]) -> &[u8]
     ensures { λ r. ⌜ now r ≡ left (now (step .entry)) ⌝ }
 {
-    ledgers::term_part(step, 4, 8)
+    fields::term_part(step, 4, 8)
 }
 
 fn right(step: &[u8]) -> &[u8]
     ensures { λ r. ⌜ now r ≡ right (now (step .entry)) ⌝ }
 {
-    ledgers::term_part(step, 5, 72)
+    fields::term_part(step, 5, 72)
 }
 
 // Which of bytes 1, 2 and 3 a rule uses: the first premise, the second, the grant.
@@ -147,7 +144,7 @@ fn past_term(step: &[u8], k: usize, at: usize) -> bool
     if 64 < len {
         return true;
     }
-    ledgers::filler(&step[at + len..at + 64])
+    fields::filler(&step[at + len..at + 64])
 }
 
 // Bytes 6 and 7, and what is past the terms.
@@ -155,7 +152,7 @@ fn filler_form(step: &[u8]) -> bool
     requires { ⌜ 136 ≤ length (now step) ⌝ }
     ensures { λ r. ⌜ r ≡ fillerForm (now (step .entry)) ⌝ }
 {
-    let unused = ledgers::filler(&step[6..8]);
+    let unused = fields::filler(&step[6..8]);
     if !unused {
         return false;
     }
@@ -186,7 +183,7 @@ fn read_field(step: &[u8], k: usize, at: usize, n: u64) -> TermReading
     if 64 < step[k] {
         return TermReading::Refused(1);
     }
-    terms::read_term(ledgers::term_part(step, k, at), n)
+    terms::read_term(fields::term_part(step, k, at), n)
 }
 
 // What checking a step gives.
@@ -442,16 +439,6 @@ fn check_steps(derivation: &[u8], ledger: &[u8], n: u64, grants: usize, marks: u
     Checked::Accepted
 }
 
-// A multiple of 136 from 136 to 8,704: 1 to 64 steps.
-fn length_fits(len: usize) -> bool
-    ensures { λ r. ⌜ r ≡ derivationLength len ⌝ }
-{
-    if len % 136 != 0 {
-        return false;
-    }
-    136 <= len && len <= 8704
-}
-
 // Checks a derivation. The grants that count are judged once.
 pub fn check_derivation(derivation: &[u8], ledger: &[u8], label: &[u8]) -> Checked
     ensures { λ r. ⌜ answerOf r ≡ checkDerivation (now (derivation .entry)) (now (ledger .entry)) (now (label .entry)) ⌝ }
@@ -464,7 +451,7 @@ pub fn check_derivation(derivation: &[u8], ledger: &[u8], label: &[u8]) -> Check
     let TermReading::Accepted = term else {
         return Checked::Refused(40 + terms::term_refusal(term));
     };
-    let fits = length_fits(derivation.len());
+    let fits = fields::length_fits(derivation.len(), 136, 8704);
     if !fits {
         return Checked::Refused(60);
     }

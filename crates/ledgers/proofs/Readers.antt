@@ -15,7 +15,7 @@ use Rattle.model.proofs.Stands.{read-grants}
 use Rattle.terms.specs.Readings.{termReading}
 use Rattle.terms.specs.declared.TermReading.{TermReading}
 use Rattle.terms.specs.declared.TermReading.the-variants.{Accepted as AcceptedTerm, Refused as RefusedTerm}
-use Rattle.ledgers.proofs.Parts.{slice-field}
+use Rattle.fields.proofs.Parts.{slice-field}
 use Rattle.ledgers.specs.Readings.{grantReading, ledgerReading}
 use Rattle.ledgers.specs.declared.GrantReading.{GrantReading}
 use Rattle.ledgers.specs.declared.GrantReading.the-variants.{Accepted, Refused}

@@ -1,4 +1,4 @@
--- Laws of the two sums over a block's bytes: the weighted sum of its check, and the one that tells filler. Assumes nothing.
+-- Laws of the weighted sum of a block's check. Assumes nothing.
 use Prim.Native.Nat.{ℕ, zero, suc, _+_, _*_, _≤_, _<_}
 use native.Mathlib.Nat.{mul-le-mul, add-zero, zero-add, add-assoc, mul-zero, add-mul, mul-add}
 use native.Mathlib.Numerals.{add-one}
@@ -71,23 +71,3 @@ rows-more block at sum total-of weight h e s =
     let split : weighted 0 (take (at + 102) block) ≡ weighted 0 (take at block) + weighted at row =
     ap (weighted 0) (take-add at 102 block) ∙ weighted-append 0 (take at block) row ∙ ap (λ k. weighted 0 (take at block) + weighted k row) (zero-add (length (take at block)) ∙ size) in
     rw (split, shifted, e, s .sum-is, s .weight-is)
-
--- a byte put in by `or` leaves 0 exactly if it is 00
-pub or-none : (a b : ℕ) → eqb (bitOr a b) 0 ≡ (eqb a 0 && eqb b 0)
-or-none zero zero = refl
-or-none zero (suc b) = rw (or-zero-l (suc b))
-or-none (suc a) b = rw eqb·suc-zero (ne-eqb (bitOr (suc a) b) 0 (λ e. omega (arith, or-add-and (suc a) b, and-le-l (suc a) b, and-le-r (suc a) b)))
-
-module _ (part : List ℕ) where
-  -- before byte i: the bytes passed are 00, and so are those to come, exactly if all are
-  pub filler-more : (i any : ℕ) (all : Bool) → i < length part → (eqb any 0 && zeros (drop i part)) ≡ all → (eqb (bitOr any (getD part i 0)) 0 && zeros (drop (i + 1) part)) ≡ all
-  unfolding zeros
-  filler-more i any all h e =
-      let split : zeros (drop i part) ≡ (eqb (getD part i 0) 0 && zeros (drop (i + 1) part)) = rw (add-one i, drop-cons part i 0 h) in
-      rw (or-none any (getD part i 0), and-assoc) (sym (ap (λ (z : Bool). eqb any 0 && z) split) ∙ e)
-
-  pub filler-end : (i any : ℕ) (all : Bool) → length part ≤ i → (eqb any 0 && zeros (drop i part)) ≡ all → eqb any 0 ≡ all
-  unfolding zeros
-  filler-end i any all h e =
-      let none : zeros (drop i part) ≡ true = rw (drop-of-length-le part {i = i} h) in
-      sym (and-true (eqb any 0)) ∙ sym (ap (λ (z : Bool). eqb any 0 && z) none) ∙ e

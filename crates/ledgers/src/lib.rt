@@ -87,19 +87,6 @@ fn all_checks(ledger: &[u8]) -> bool
     true
 }
 
-// All bytes of the part are 00. No branch for a byte: what is not 0 stays in `any`.
-pub fn filler(part: &[u8]) -> bool
-    ensures { λ r. ⌜ r ≡ zeros (now (part .entry)) ⌝ }
-{
-    let mut any: u8 = 0;
-    let mut i: usize = 0;
-    while i < part.len() {
-        any |= part[i];
-        i += 1;
-    }
-    any == 0
-}
-
 // Block 0 of a ledger of `count` grants: kind, n, count and filler.
 fn header_form(block: &[u8], count: usize) -> bool
     requires { ⌜ 510 ≤ length (now block) ⌝ }
@@ -118,7 +105,7 @@ fn header_form(block: &[u8], count: usize) -> bool
     if said as usize != count {
         return false;
     }
-    filler(&block[4..510])
+    fields::filler(&block[4..510])
 }
 
 // Byte k is the length of the term that begins at `at`, and the rest of the field of `size` bytes is filler.
@@ -133,7 +120,7 @@ fn term_form(block: &[u8], k: usize, at: usize, size: usize) -> bool
     if 64 < len {
         return false;
     }
-    filler(&block[at + len..at + size])
+    fields::filler(&block[at + len..at + size])
 }
 
 // A grant's block: kind, lengths and filler.
@@ -144,7 +131,7 @@ fn grant_form(block: &[u8]) -> bool
     if block[0] != 2 {
         return false;
     }
-    let unused = filler(&block[4..16]);
+    let unused = fields::filler(&block[4..16]);
     if !unused {
         return false;
     }
@@ -228,21 +215,11 @@ fn grant_refusal(reading: GrantReading) -> u8
     }
 }
 
-// A multiple of 512 from 512 to 33,280: block 0 and at most 64 grants.
-fn length_fits(len: usize) -> bool
-    ensures { λ r. ⌜ r ≡ ledgerLength len ⌝ }
-{
-    if len % 512 != 0 {
-        return false;
-    }
-    512 <= len && len <= 33280
-}
-
 // Reads a ledger.
 pub fn read_ledger(ledger: &[u8]) -> LedgerReading
     ensures { λ r. ⌜ r ≡ ledgerReading (readLedger (now (ledger .entry))) ⌝ }
 {
-    let fits = length_fits(ledger.len());
+    let fits = fields::length_fits(ledger.len(), 512, 33280);
     if !fits {
         return LedgerReading::Refused(10);
     }
@@ -279,19 +256,6 @@ pub fn ledger_refusal(reading: LedgerReading) -> u8
     }
 }
 
-// The bytes that start at `at`, as many as `len` or as there are.
-pub fn part(bytes: &[u8], at: usize, len: usize) -> &[u8]
-    ensures { λ r. ⌜ now r ≡ field at len (now (bytes .entry)) ⌝ }
-{
-    if bytes.len() <= at {
-        return &bytes[..0];
-    }
-    if bytes.len() - at <= len {
-        return &bytes[at..];
-    }
-    &bytes[at..at + len]
-}
-
 // The block of grant k, a part of the ledger; an empty part where there is none.
 pub fn grant_block(ledger: &[u8], k: usize) -> &[u8]
     ensures { λ r. ⌜ now r ≡ grantBlock (now (ledger .entry)) k ⌝ }
@@ -299,35 +263,24 @@ pub fn grant_block(ledger: &[u8], k: usize) -> &[u8]
     if ledger.len() / 512 <= k {
         return &ledger[..0];
     }
-    part(ledger, 512 * (k + 1), 512)
-}
-
-// The part of a grant's block whose length is byte k and that begins at `at`.
-pub fn term_part(block: &[u8], k: usize, at: usize) -> &[u8]
-    ensures { λ r. ⌜ now r ≡ field at (byte k (now (block .entry))) (now (block .entry)) ⌝ }
-{
-    if block.len() <= k {
-        return &block[..0];
-    }
-    let len = block[k] as usize;
-    part(block, at, len)
+    fields::piece(ledger, 512, k + 1)
 }
 
 // Where grant k's p, q and label stand, parts of the ledger; empty parts where there is no such grant.
 pub fn grant_p(ledger: &[u8], k: usize) -> &[u8]
     ensures { λ r. ⌜ now r ≡ pBytes (grantBlock (now (ledger .entry)) k) ⌝ }
 {
-    term_part(grant_block(ledger, k), 1, 16)
+    fields::term_part(grant_block(ledger, k), 1, 16)
 }
 
 pub fn grant_q(ledger: &[u8], k: usize) -> &[u8]
     ensures { λ r. ⌜ now r ≡ qBytes (grantBlock (now (ledger .entry)) k) ⌝ }
 {
-    term_part(grant_block(ledger, k), 2, 80)
+    fields::term_part(grant_block(ledger, k), 2, 80)
 }
 
 pub fn grant_label(ledger: &[u8], k: usize) -> &[u8]
     ensures { λ r. ⌜ now r ≡ labelBytes (grantBlock (now (ledger .entry)) k) ⌝ }
 {
-    term_part(grant_block(ledger, k), 3, 144)
+    fields::term_part(grant_block(ledger, k), 3, 144)
 }

@@ -1,14 +1,17 @@
 -- Laws of the term that any bytes stand for: code by code, and that the bytes of a term stand for it. Assumes nothing.
 use mathlib.Core.Path.{_≡_, refl, sym, ap, _∙_}
 use mathlib.Core.List.{List, [], _∷_, _++_, append-assoc, append-nil}
-use Prim.Native.Nat.{ℕ, zero, suc, _≤_}
+use Prim.Native.Nat.{ℕ, zero, suc, _≤_, _<_}
 use native.Mathlib.Omega.{arith}
-use lib.ListN.{length, drop, length-append, length-drop}
+use lib.ListN.{length, drop, getD, length-append, length-drop}
 use lib.Seq.{drop-append-seam}
 use Rattle.model.specs.Bytes.{accepted}
 use Rattle.model.specs.Terms.{Term, name, top, bottom, conj, disj, project, projectCode, Code, whole, one, two, none, codeOf, codes, NamesBelow, readTerm}
+use Rattle.model.specs.Grants.{Grant}
+use Rattle.model.specs.Ledgers.{Ledger, readLedger}
 use Rattle.model.proofs.Reading.{code-name, code-project, accepted-codes}
-use Rattle.words.specs.AnyBytes.{Taken, takeParts, takeWithin, taken, termIn}
+use Rattle.model.proofs.Stands.{ledger-stands}
+use Rattle.words.specs.AnyBytes.{Taken, takeParts, takeWithin, taken, termIn, grantIn}
 
 -- two takers of parts that agree on lists that are no longer than cs
 parts-same : (cs : List ℕ) (a b : List ℕ → Taken) → ((ds : List ℕ) → length ds ≤ length cs → a ds ≡ b ds) → (m : Code) → takeParts a m cs ≡ takeParts b m cs
@@ -66,3 +69,9 @@ term-codes n bytes t e below = ap (λ (cs : List ℕ). termIn cs) (e ∙ sym (ap
 -- So does a list that is accepted as a term.
 pub term-in : (n : ℕ) (bytes : List ℕ) (t : Term) → readTerm n bytes ≡ accepted t → termIn bytes ≡ t
 term-in n bytes t e = let h = accepted-codes n bytes t .0 e in term-codes n bytes t (h .0) (h .1)
+
+-- Block k of an accepted ledger stands for grant k; `other` is any grant, for a k past the last.
+pub grant-in : (bytes : List ℕ) (l : Ledger) (k : ℕ) (other : Grant) → readLedger bytes ≡ accepted l → k < length (l .grants) → grantIn bytes k ≡ getD (l .grants) k other
+grant-in bytes l k other e below =
+    let g = ledger-stands bytes l e .grant k other below in
+    rw (term-in (l .names) _ _ (g .p .is), term-in (l .names) _ _ (g .q .is), term-in (l .names) _ _ (g .label .is))

@@ -4,6 +4,9 @@ use Prim.Native.Nat.{ℕ, zero, suc, _+_}
 use mathlib.Core.List.{List, [], _∷_}
 use lib.ListN.{length, drop}
 use Rattle.model.specs.Terms.{Term, top, Code, whole, one, two, none, codeOf}
+use Rattle.model.specs.Grants.{Grant}
+use Rattle.model.specs.Ledgers.{pBytes, qBytes, labelBytes}
+use Rattle.model.specs.Derivations.{grantBlock}
 
 -- a term, and how many bytes it takes
 pub record Taken : Type 0 where
@@ -32,3 +35,11 @@ taken cs = takeWithin (length cs) cs
 -- the term that the bytes stand for
 abbrev pub termIn : List ℕ → Term
 termIn bytes = taken bytes .term
+
+-- the grant that block k of any bytes stands for
+abbrev pub grantIn : List ℕ → ℕ → Grant
+grantIn ledger k = record {
+  p = termIn (pBytes (grantBlock ledger k));
+  q = termIn (qBytes (grantBlock ledger k));
+  label = termIn (labelBytes (grantBlock ledger k));
+}

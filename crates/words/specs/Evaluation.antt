@@ -8,7 +8,7 @@ use lib.ListN.{length, drop, getD}
 use Rattle.model.specs.Answers.{Side, confidentiality, integrity}
 use Rattle.model.specs.Terms.{Term, held}
 use Rattle.model.specs.Grants.{Marks}
-use Rattle.model.specs.Extracts.{packed}
+use Rattle.model.specs.Extracts.{mark, packed}
 use Rattle.words.specs.AnyBytes.{taken, termIn}
 
 -- word w of a term on a side
@@ -19,9 +19,17 @@ heldWord t s w = packed (held t s) (64 * w) 64
 abbrev pub coalitionWord : ℕ → ℕ → ℕ
 coalitionWord n w = packed (λ c. ltb c (2 ^ n)) (64 * w) 64
 
--- How many words the coalitions of n names take, n being 12 at most: the least that hold 2^n bits.
+-- a job has at most 12 names
+abbrev pub jobOf : ℕ → ℕ
+jobOf n = min n 12
+
+-- How many words the coalitions of a job of n names take: the least that hold 2^n bits.
 abbrev pub wordsOf : ℕ → ℕ
-wordsOf n = 2 ^ (min n 12 - 6)
+wordsOf n = 2 ^ (jobOf n - 6)
+
+-- f holds at no coalition of n names in the words before w
+abbrev pub ClearTo : ℕ → (ℕ → Bool) → ℕ → Type 0
+ClearTo n f w = (c : ℕ) → c < 64 * w → mark n f c ≡ false
 
 -- Word w of a set of coalitions on each side.
 pub record WordsAt (f : Marks) (w see change : ℕ) : Type 0 where

@@ -28,6 +28,12 @@ fn name_word(i: u8, w: u64) -> u64
     }
 }
 
+// A word of a set of coalitions on each side.
+pub struct Words {
+    pub see: u64,
+    pub change: u64,
+}
+
 // A word of a term on both sides, and the place after the term's codes. The place stands between the words: side by side they
 // are written one by one and read back as a pair, which costs a quarter of the time.
 pub struct Held {

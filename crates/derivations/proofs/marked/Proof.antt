@@ -2,7 +2,7 @@
 use native.Mathlib.Omega.{arith}
 use mathlib.Core.Path.{refl, sym}
 use Rattle.model.specs.Terms.{member}
-use Rattle.decisions.proofs.Accepted.{word-past}
+use Rattle.model.proofs.Prefixes.{word-past}
 use borrow.Author.Needs.{needs}
 use Rattle.derivations.proofs.marked.Statement.{statement}
 use Rattle.derivations.proofs.marked.Tie as tie

@@ -7,7 +7,7 @@ use lib.ListN.{length-take, length-drop}
 use borrow.Author.Tests.{not-true, not-false}
 use Rattle.model.specs.Ledgers.{checked, header, grantBlocks, allChecked}
 use Rattle.ledgers.proofs.Checks.{checksFrom, checks-start, checks-more, checks-end}
-use Rattle.ledgers.proofs.Parts.{slice-field}
+use Rattle.fields.proofs.Parts.{slice-field}
 use Rattle.ledgers.proofs.all_checks.Statement.{statement}
 use Rattle.ledgers.proofs.all_checks.Tie as tie
 

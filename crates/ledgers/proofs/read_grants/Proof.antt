@@ -9,7 +9,7 @@ use borrow.Author.Needs.{needs}
 use Rattle.model.specs.Ledgers.{grantBlocks, readGrant, readGrants}
 use Rattle.ledgers.specs.Readings.{grantReading}
 use Rattle.ledgers.specs.declared.GrantReading.{GrantReading}
-use Rattle.ledgers.proofs.Parts.{slice-field}
+use Rattle.fields.proofs.Parts.{slice-field}
 use Rattle.ledgers.proofs.Readers.{onGrant, grantsFrom, grants-start, grants-more, grants-end}
 use Rattle.ledgers.proofs.read_grants.Statement.{statement}
 use Rattle.ledgers.proofs.read_grants.Tie as tie

@@ -1,0 +1,48 @@
+-- What the bits are where the bytes are an accepted ledger and an accepted label. Assumes nothing.
+use mathlib.Core.Path.{_≡_, sym}
+use mathlib.Core.List.{List}
+use Prim.Native.Nat.{ℕ, _≤_}
+use native.Mathlib.Decide.{decLt}
+use native.Mathlib.Omega.{arith}
+use borrow.Author.Tests.{lt-ltb, le-ltb}
+use Rattle.model.specs.Bytes.{accepted}
+use Rattle.model.specs.Terms.{Term, top, readTerm}
+use Rattle.model.specs.Grants.{Grant, counts}
+use Rattle.model.specs.Ledgers.{Ledger}
+use Rattle.model.specs.Derivations.{ofGrant}
+use Rattle.model.specs.Meanings.{grantBits}
+use Rattle.model.proofs.Prefixes.{ofGrant-getD, ofGrant-past}
+use Rattle.model.proofs.Stands.{LedgerStands, ledger-stands}
+use Rattle.words.proofs.AnyBytes.{term-in, grant-in}
+use Rattle.words.proofs.Names.{job-is}
+use Rattle.words.proofs.Packing.{packed-cong}
+use Rattle.counting.specs.Counted.{countsIn, countedIn, LedgerOf}
+
+-- what stands for a grant past the last
+abbrev noGrant : Grant
+noGrant = record { p = top; q = top; label = top }
+
+module _ (bytes : List ℕ) (n grants : ℕ) (l : Ledger) (h : LedgerOf bytes n grants l) where
+  stands : LedgerStands bytes l
+  stands = ledger-stands bytes l (h .is)
+
+  -- n is 12 at most, and grants 64
+  pub names-few : n ≤ 12
+  names-few = omega (arith, h .names, stands .names-most)
+
+  grants-few : grants ≤ 64
+  grants-few = omega (arith, h .count, stands .count-most)
+
+  module _ (L : Term) (label : List ℕ) (e : readTerm n label ≡ accepted L) where
+    counts-in : (k : ℕ) → countsIn bytes n grants label k ≡ ofGrant (counts n L) (l .grants) k
+    counts-in k = elim (decLt k grants) [
+      | yes b ↦
+          rw (lt-ltb k grants b, job-is n names-few, term-in n label L e, grant-in bytes l k noGrant (h .is) (omega (arith, h .count)))
+          (sym (ofGrant-getD (counts n L) (l .grants) k noGrant (omega (arith, h .count))))
+      | no b ↦ rw (le-ltb k grants (omega arith)) (sym (ofGrant-past (counts n L) (l .grants) k (omega (arith, h .count))))
+    ]
+
+    -- bit k is set exactly if grant k counts
+    pub counted-in : countedIn bytes n grants label ≡ grantBits (counts n L) (l .grants)
+    unfolding countedIn
+    counted-in = rw (le-ltb 64 grants grants-few) (packed-cong (countsIn bytes n grants label) (ofGrant (counts n L) (l .grants)) 0 64 (λ k _ _. counts-in k))

@@ -1,0 +1,1 @@
+-- The promises cite the model alone.

@@ -1,0 +1,67 @@
+// Fields of bytes, which ledgers and derivations are made of: parts, pieces of one size, filler (document 01, "The ledger" and "Derivations").
+ghost use mathlib.Core.Path.{_≡_};
+ghost use Prim.Native.Nat.{_*_};
+ghost use Rattle.model.specs.Bytes.{byte, field, zeros, multipleUpTo};
+
+// All bytes of the part are 00. No branch for a byte: what is not 0 stays in `any`.
+pub fn filler(part: &[u8]) -> bool
+    ensures { λ r. ⌜ r ≡ zeros (now (part .entry)) ⌝ }
+{
+    let mut any: u8 = 0;
+    let mut i: usize = 0;
+    while i < part.len() {
+        any |= part[i];
+        i += 1;
+    }
+    any == 0
+}
+
+// A multiple of `size` from `size` to `most`: whole pieces, at least one.
+pub fn length_fits(len: usize, size: usize, most: usize) -> bool
+    ensures { λ r. ⌜ r ≡ multipleUpTo size most len ⌝ }
+{
+    if size == 0 {
+        return len == 0;
+    }
+    if len % size != 0 {
+        return false;
+    }
+    size <= len && len <= most
+}
+
+// The bytes that start at `at`, as many as `len` or as there are.
+pub fn part(bytes: &[u8], at: usize, len: usize) -> &[u8]
+    ensures { λ r. ⌜ now r ≡ field at len (now (bytes .entry)) ⌝ }
+{
+    if bytes.len() <= at {
+        return &bytes[..0];
+    }
+    if bytes.len() - at <= len {
+        return &bytes[at..];
+    }
+    &bytes[at..at + len]
+}
+
+// Of pieces of `size` bytes, piece k: as much of it as there is.
+pub fn piece(bytes: &[u8], size: usize, k: usize) -> &[u8]
+    ensures { λ r. ⌜ now r ≡ field (size * k) size (now (bytes .entry)) ⌝ }
+{
+    if size == 0 {
+        return &bytes[..0];
+    }
+    if bytes.len() / size < k {
+        return &bytes[..0];
+    }
+    part(bytes, size * k, size)
+}
+
+// The part whose length is byte k and that begins at `at`.
+pub fn term_part(block: &[u8], k: usize, at: usize) -> &[u8]
+    ensures { λ r. ⌜ now r ≡ field at (byte k (now (block .entry))) (now (block .entry)) ⌝ }
+{
+    if block.len() <= k {
+        return &block[..0];
+    }
+    let len = block[k] as usize;
+    part(block, at, len)
+}

@@ -1,0 +1,45 @@
+-- What the promises come to where the bytes are an accepted ledger, for the bits of any test of a grant. Assumes nothing.
+use mathlib.Core.Path.{_≡_, sym, ap, ap₂, _∙_}
+use mathlib.Core.Bool.{Bool, _&&_}
+use mathlib.Core.List.{List}
+use Prim.Native.Nat.{ℕ, zero, suc, _≤_, _<_}
+use native.Mathlib.Omega.{arith}
+use lib.ListN.{length, take, getD}
+use lib.Seq.{take-all}
+use Rattle.model.specs.Answers.{Side}
+use Rattle.model.specs.Bytes.{accepted}
+use Rattle.model.specs.Terms.{top, member}
+use Rattle.model.specs.Grants.{Grant, implies, every, keeps, chosen, sound}
+use Rattle.model.specs.Ledgers.{Ledger, readLedger}
+use Rattle.model.specs.Meanings.{grantBits}
+use Rattle.model.proofs.Prefixes.{ofGrant-getD, bits-say, sound-none, sound-more}
+use Rattle.model.proofs.Stands.{ledger-stands}
+use Rattle.words.specs.AnyBytes.{grantIn}
+use Rattle.words.proofs.AnyBytes.{grant-in}
+use Rattle.soundness.specs.Keeping.{soundIn}
+
+-- what stands for a grant past the last
+abbrev noGrant : Grant
+noGrant = record { p = top; q = top; label = top }
+
+-- the coalitions that keep the grants of these bits are those that keep the grants at which the test holds
+pub sound-in : (bytes : List ℕ) (grants : ℕ) (l : Ledger) (f : Grant → Bool) → readLedger bytes ≡ accepted l → grants ≡ length (l .grants)
+    → (s : Side) (c : ℕ) → soundIn bytes grants (grantBits f (l .grants)) s c ≡ sound (chosen f (l .grants)) s c
+unfolding soundIn every
+sound-in bytes grants l f is count s c = first grants (omega arith) ∙ rw (take-all grants (l .grants) (omega arith))
+  where
+    grantAt : ℕ → Grant
+    grantAt k = getD (l .grants) k noGrant
+
+    test : ℕ → Bool
+    test k = implies (member k (grantBits f (l .grants))) (keeps (grantIn bytes k) s c)
+
+    each : (k : ℕ) → k < grants → test k ≡ implies (f (grantAt k)) (keeps (grantAt k) s c)
+    each k b =
+        ap₂ implies
+        (bits-say f (l .grants) k (ledger-stands bytes l is .count-most) ∙ ofGrant-getD f (l .grants) k noGrant (omega arith))
+        (ap (λ (g : Grant). keeps g s c) (grant-in bytes l k noGrant is (omega arith)))
+
+    first : (k : ℕ) → k ≤ grants → every test k ≡ sound (chosen f (take k (l .grants))) s c
+    first zero b = sym (sound-none f s c (l .grants))
+    first (suc k) b = ap₂ _&&_ (first k (omega arith)) (each k (omega arith)) ∙ sym (sound-more f s c (l .grants) k noGrant (omega arith))

@@ -1,0 +1,3 @@
+-- Laws that the proofs of the functions cite, and what the promises are of an accepted ledger.
+pub mod Steps
+pub mod Accepted

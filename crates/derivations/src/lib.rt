@@ -352,7 +352,7 @@ fn meets(derivation: &[u8], step: &[u8], ledger: &[u8], n: u64) -> bool
     let grant = step[3] as usize;
     let rule = step[0];
     match rule {
-        1 => decisions::acts_statically(n, left(step), right(step)),
+        1 => counting::acts_statically(n, left(step), right(step)),
         2 => has_terms(
             step,
             ledgers::grant_p(ledger, grant),
@@ -455,8 +455,8 @@ pub fn check_derivation(derivation: &[u8], ledger: &[u8], label: &[u8]) -> Check
     if !fits {
         return Checked::Refused(60);
     }
-    let marks = decisions::counting(ledger, n, grants, label);
-    check_steps(derivation, ledger, n, grants, marks)
+    let counted = counting::counted(ledger, n, grants, label);
+    check_steps(derivation, ledger, n, grants, counted)
 }
 
 // The block of the grant that a step of an accepted derivation names, a part of the ledger; an empty part for any refusal, a step past

@@ -6,7 +6,7 @@ ghost use Prim.Native.Nat.{_+_, _*_, _≤_, _<_};
 ghost use lib.ListN.{length};
 ghost use lib.Seq.{paste};
 ghost use Rattle.model.specs.Extracts.{extract};
-ghost use Rattle.decisions.specs.Promises.{soundIn};
+ghost use Rattle.soundness.specs.Keeping.{soundIn};
 ghost use Rattle.extracts.specs.Halves.{littleEndian, blank, Halves};
 ghost use Rattle.extracts.specs.Results.{outcome};
 
@@ -27,17 +27,17 @@ fn mark_sound(
     ledger: &[u8],
     n: u64,
     grants: usize,
-    marks: u64,
+    chosen: u64,
     see: &mut [u8; 512],
     change: &mut [u8; 512],
 )
     requires { ⌜ (now see ≡ blank 512) × (now change ≡ blank 512) ⌝ }
-    ensures { λ _. ⌜ Halves n (soundIn (now (ledger .entry)) grants marks) (now (see .exit)) (now (change .exit)) ⌝ }
+    ensures { λ _. ⌜ Halves n (soundIn (now (ledger .entry)) grants chosen) (now (see .exit)) (now (change .exit)) ⌝ }
 {
     let words = words::word_count(n);
     let mut w: u64 = 0;
     while w < words {
-        let sound = decisions::sound_word(ledger, n, grants, marks, w);
+        let sound = soundness::sound_word(ledger, n, grants, chosen, w);
         let at = w as usize;
         put_word(see, at, sound.see);
         put_word(change, at, sound.change);
@@ -80,10 +80,10 @@ pub fn extract(ledger: &[u8], label: &[u8], buffer: &mut [u8]) -> Extracted
         let refusal = 40 + terms::term_refusal(said);
         return Extracted::Refused(refusal);
     };
-    let marks = decisions::counting(ledger, names, grants, label);
+    let counted = counting::counted(ledger, names, grants, label);
     let mut see = [0u8; 512];
     let mut change = [0u8; 512];
-    mark_sound(ledger, names, grants, marks, &mut see, &mut change);
+    mark_sound(ledger, names, grants, counted, &mut see, &mut change);
     copy_half(&see, buffer, 0);
     copy_half(&change, buffer, 512);
     Extracted::Written

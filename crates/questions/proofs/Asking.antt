@@ -4,10 +4,11 @@ use mathlib.Core.List.{List}
 use Prim.Native.Nat.{ℕ, _+_, _≤_}
 use native.Mathlib.Omega.{arith}
 use Rattle.model.specs.Bytes.{accepted, refused}
-use Rattle.model.specs.Answers.{Answer, Refused}
+use Rattle.model.specs.Answers.{Answer, Refused as RefusedAnswer}
 use Rattle.model.specs.Terms.{Term, readTerm}
 use Rattle.model.specs.Ledgers.{Ledger, readLedger}
-use Rattle.model.specs.Questions.{ask}
+use Rattle.model.specs.Grants.{counts}
+use Rattle.model.specs.Questions.{soundUnder, ask}
 use Rattle.terms.specs.declared.TermReading.{TermReading}
 use Rattle.terms.specs.declared.TermReading.the-variants.{Refused as RefusedTerm}
 use Rattle.terms.specs.Readings.{termReading, termRefusal}
@@ -17,12 +18,20 @@ use Rattle.ledgers.specs.declared.LedgerReading.the-variants.{Refused as Refuse
 use Rattle.ledgers.specs.Readings.{ledgerReading, ledgerRefusal}
 use Rattle.ledgers.proofs.Accepted.{AcceptedLedger, refused-ledger}
 use Rattle.words.specs.AnyBytes.{termIn}
+use Rattle.words.specs.Evaluation.{jobOf}
 use Rattle.words.proofs.AnyBytes.{term-in}
-use Rattle.decisions.specs.declared.Question.{Question}
-use Rattle.decisions.specs.Promises.{jobOf, countingIn, soundIn, LedgerOf}
-use Rattle.decisions.specs.Answers.{judgeOf, questionOf}
-use Rattle.decisions.proofs.Accepted.{job-is, names-few, sound-counted}
-use Rattle.decisions.proofs.Refuting.{judged-under}
+use Rattle.words.proofs.Names.{job-is}
+use Rattle.counting.specs.Counted.{countedIn, LedgerOf}
+use Rattle.counting.proofs.Accepted.{names-few, counted-in}
+use Rattle.soundness.specs.Keeping.{soundIn}
+use Rattle.soundness.proofs.Accepted.{sound-in}
+use Rattle.questions.specs.declared.Question.{Question}
+use Rattle.questions.specs.declared.Answer.{Answer as Answered}
+use Rattle.questions.specs.declared.Verdict.{Verdict}
+use Rattle.questions.specs.declared.Verdict.the-variants.{Holds, Refuted}
+use Rattle.questions.specs.Answers.{answerOf, questionOf}
+use Rattle.questions.specs.Searching.{verdictOf, verdictAnswer, judgeOf}
+use Rattle.questions.proofs.Refuting.{judged-under}
 
 -- the number that the code hands on is the reader's refusal
 pub ledger-refused : (bytes : List ℕ) (s : LedgerReading) (k r : ℕ) → s ≡ ledgerReading (readLedger bytes) → s ≡ RefusedLedger k → r ≡ ledgerRefusal s → readLedger bytes ≡ refused r
@@ -41,31 +50,37 @@ pub ledger-of : (bytes : List ℕ) (n grants : ℕ) (a : AcceptedLedger bytes n 
 ledger-of bytes n grants a = record { is = a .is; names = sym (a .names); count = sym (a .count) }
 
 -- what is judged on bytes that are accepted is what the question answers
-pub judged-asked : (question : Question) (ledger p q label : List ℕ) (n grants marks : ℕ) (l : Ledger) (tp tq L : Term) → LedgerOf ledger n grants l
-    → readTerm n p ≡ accepted tp → readTerm n q ≡ accepted tq → readTerm n label ≡ accepted L → marks ≡ countingIn ledger n grants label
-    → judgeOf question (jobOf n) (soundIn ledger grants marks) (termIn p) (termIn q) ≡ questionOf question l L tp tq
-judged-asked question ledger p q label n grants marks l tp tq L of a b c counted =
-    rw (job-is n (names-few ledger n grants l of), term-in n p tp a, term-in n q tq b)
-    (judged-under question n l L tp tq _ (of .names) (sound-counted ledger n grants l of L label marks c counted))
+pub judged-asked : (question : Question) (ledger p q label : List ℕ) (n grants counted : ℕ) (l : Ledger) (tp tq L : Term) → LedgerOf ledger n grants l
+    → readTerm n p ≡ accepted tp → readTerm n q ≡ accepted tq → readTerm n label ≡ accepted L → counted ≡ countedIn ledger n grants label
+    → judgeOf question (jobOf n) (soundIn ledger grants counted) (termIn p) (termIn q) ≡ questionOf question l L tp tq
+unfolding soundUnder
+judged-asked question ledger p q label n grants counted l tp tq L of a b c e =
+    rw (e ∙ counted-in ledger n grants l of L label c, job-is n (names-few ledger n grants l of), term-in n p tp a, term-in n q tq b)
+    (judged-under question n l L tp tq _ (of .names) (λ s d. sound-in ledger grants l (counts n L) (of .is) (of .count) s d ∙ rw (of .names)))
+
+-- a verdict's answer is what the verdict stands for
+pub verdict-answers : (v : Verdict) (r : Answered) (a : Answer) → r ≡ verdictAnswer v → verdictOf v ≡ a → answerOf r ≡ a
+verdict-answers Holds r a e h = rw e h
+verdict-answers (Refuted s c) r a e h = rw e h
 
 -- ---- a question whose ledger is refused, or p, q or the label
 module _ (answer : Ledger → Term → Term → Term → Answer) (ledger p q label : List ℕ) where
-  pub ask-ledger : (r : ℕ) → readLedger ledger ≡ refused r → Refused r ≡ ask answer ledger p q label
+  pub ask-ledger : (r : ℕ) → readLedger ledger ≡ refused r → RefusedAnswer r ≡ ask answer ledger p q label
   unfolding ask
   ask-ledger r e = rw e
 
   module _ (l : Ledger) (n : ℕ) (read : readLedger ledger ≡ accepted l) (names : l .names ≡ n) where
-    pub ask-p : (r : ℕ) → readTerm n p ≡ refused r → Refused (20 + r) ≡ ask answer ledger p q label
+    pub ask-p : (r : ℕ) → readTerm n p ≡ refused r → RefusedAnswer (20 + r) ≡ ask answer ledger p q label
     unfolding ask
     ask-p r e = rw (read, names, e)
 
     module _ (tp : Term) (p-read : readTerm n p ≡ accepted tp) where
-      pub ask-q : (r : ℕ) → readTerm n q ≡ refused r → Refused (30 + r) ≡ ask answer ledger p q label
+      pub ask-q : (r : ℕ) → readTerm n q ≡ refused r → RefusedAnswer (30 + r) ≡ ask answer ledger p q label
       unfolding ask
       ask-q r e = rw (read, names, p-read, e)
 
       module _ (tq : Term) (q-read : readTerm n q ≡ accepted tq) where
-        pub ask-label : (r : ℕ) → readTerm n label ≡ refused r → Refused (40 + r) ≡ ask answer ledger p q label
+        pub ask-label : (r : ℕ) → readTerm n label ≡ refused r → RefusedAnswer (40 + r) ≡ ask answer ledger p q label
         unfolding ask
         ask-label r e = rw (read, names, p-read, q-read, e)
 

@@ -1,3 +1,3 @@
 -- What the promises of this crate cite.
-pub mod Promises
 pub mod Answers
+pub mod Searching

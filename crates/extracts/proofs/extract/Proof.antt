@@ -12,9 +12,10 @@ use Rattle.model.specs.Extracts.{table}
 use Rattle.model.proofs.Table.{table-cong}
 use Rattle.terms.proofs.Accepted.{AcceptedTerm, accepted-term}
 use Rattle.ledgers.proofs.Accepted.{AcceptedLedger, accepted-ledger}
-use Rattle.decisions.specs.Promises.{soundIn, LedgerOf}
-use Rattle.decisions.proofs.Accepted.{sound-counted}
-use Rattle.decisions.proofs.Asking as asking
+use Rattle.counting.specs.Counted.{LedgerOf}
+use Rattle.counting.proofs.Accepted.{counted-in}
+use Rattle.soundness.specs.Keeping.{soundIn}
+use Rattle.soundness.proofs.Accepted.{sound-in}
 use Rattle.extracts.specs.Halves.{Halves}
 use Rattle.extracts.proofs.Outcomes.{see-length, change-length, halves-table, size-refused, ledger-refused, label-refused, table-written}
 use Rattle.extracts.proofs.extract.Statement.{statement}

@@ -7,19 +7,19 @@ use borrow.Author.Needs.{needs}
 use Rattle.model.specs.Answers.{confidentiality, integrity}
 use Rattle.model.specs.Extracts.{mark}
 use Rattle.words.proofs.Names.{words-few}
-use Rattle.decisions.specs.Promises.{soundIn}
+use Rattle.soundness.specs.Keeping.{soundIn}
 use Rattle.extracts.proofs.Filling.{Filled, filled-start, filled-end, turn-length, turn-half}
 use Rattle.extracts.proofs.mark_sound.Statement.{statement}
 use Rattle.extracts.proofs.mark_sound.Tie as tie
 
 abbrev Inv-loop : tie.InvT-loop
-Inv-loop ledger n grants marks see₀ change₀ words w₀ see change w =
+Inv-loop ledger n grants chosen see₀ change₀ words w₀ see change w =
     (w ≤ words)
     × ((length see ≡ 512) × (length change ≡ 512))
-    × Filled n (soundIn ledger grants marks) w see change
+    × Filled n (soundIn ledger grants chosen) w see change
 
 abbrev μ-loop : tie.MeasureT-loop
-μ-loop ledger n grants marks see₀ change₀ words w₀ see change w = words - w
+μ-loop ledger n grants chosen see₀ change₀ words w₀ see change w = words - w
 
 -- there are 64 words at most
 few : (c : tie.In-loop Inv-loop μ-loop) → c .before .loop .w < 64
@@ -58,7 +58,7 @@ loop-again c =
     let sound = first .before .before in
     let l = sound .before .before .loop in
     let a = sound .before .before .before .before .before .args in
-    let S = soundIn (a .ledger .now) (a .grants) (a .marks) in
+    let S = soundIn (a .ledger .now) (a .grants) (a .chosen) in
     let h = few (sound .before) in (
       omega arith,
       (

@@ -1,8 +1,8 @@
--- `decisions::acts_for` meets its contract. Assumes nothing.
+-- `questions::acts_for` meets its contract. Assumes nothing.
 use Rattle.model.specs.Questions.{actsFor}
 use borrow.Author.Needs.{needs}
-use Rattle.decisions.proofs.acts_for.Statement.{statement}
-use Rattle.decisions.proofs.acts_for.Tie as tie
+use Rattle.questions.proofs.acts_for.Statement.{statement}
+use Rattle.questions.proofs.acts_for.Tie as tie
 
 ask-requires : tie.Need-ask-requires
 ask-requires c κs = search needs

@@ -1,12 +1,12 @@
--- `decisions::ask` meets its contract: the refusals in their order, and the answer where nothing is refused. Assumes nothing.
+-- `questions::ask` meets its contract: the refusals in their order, and the answer where nothing is refused. Assumes nothing.
 use native.Mathlib.Omega.{arith}
 use mathlib.Core.Path.{sym, _∙_}
 use Rattle.terms.proofs.Accepted.{AcceptedTerm, accepted-term}
 use Rattle.ledgers.proofs.Accepted.{AcceptedLedger, accepted-ledger}
-use Rattle.decisions.proofs.Asking.{ledger-of, judged-asked, ledger-refused, term-refused, refusal-small, ask-ledger, ask-p, ask-q, ask-label, ask-answer}
+use Rattle.questions.proofs.Asking.{ledger-of, judged-asked, verdict-answers, ledger-refused, term-refused, refusal-small, ask-ledger, ask-p, ask-q, ask-label, ask-answer}
 use borrow.Author.Needs.{needs}
-use Rattle.decisions.proofs.ask.Statement.{statement}
-use Rattle.decisions.proofs.ask.Tie as tie
+use Rattle.questions.proofs.ask.Statement.{statement}
+use Rattle.questions.proofs.ask.Tie as tie
 
 -- the ledger, p, q and the label, where they were accepted
 book : (c : tie.After-known-told) → AcceptedLedger (c .before .before .before .before .before .before .before .before .args .ledger .now) (c .before .book .given .0 .0) (c .before .book .given .0 .1 .0)
@@ -105,15 +105,19 @@ returns-4 c =
     ask-label _ _ _ _ _ (l .ledger) _ (l .is) (l .names) (tp .term) (tp .is) (tq .term) (tq .is) _
     (term-refused _ _ _ _ (c .before .before .before .read-term3 .ensures) (c .term-refusal3 .ensures) _ (c .before .enum-told7 .given .1))
 
-counting-requires : tie.Need-counting-requires
-counting-requires c κs = search needs
+counted-requires : tie.Need-counted-requires
+counted-requires c κs = search needs
 
 judge-requires : tie.Need-judge-requires
 judge-requires c κs = search needs
 
+answered-requires : tie.Need-answered-requires
+answered-requires c κs = search needs
+
 returns-5 : tie.Need-returns-5
 returns-5 c =
-    let d = c .before .before in
+    let v = c .before in
+    let d = v .before .before in
     let q = d .before .before .before in
     let p = q .before .before .before in
     let l = book (p .before .before .before) in
@@ -121,9 +125,10 @@ returns-5 c =
     let tq = second q in
     let L = third d in
     let a = p .before .before .before .before .before .before .before .before .before .before .before .args in
-    c .judge .ensures
-    ∙ judged-asked (a .question) _ _ _ _ _ _ _ (l .ledger) (tp .term) (tq .term) (L .term) (ledger-of _ _ _ l) (tp .is) (tq .is) (L .is) (c .before .counting .ensures)
-    ∙ ask-answer _ _ _ _ _ (l .ledger) _ (l .is) (l .names) (tp .term) (tp .is) (tq .term) (tq .is) (L .term) (L .is)
+    verdict-answers (v .judge .result) _ _ (c .answered .ensures)
+    (v .judge .ensures
+    ∙ judged-asked (a .question) _ _ _ _ _ _ _ (l .ledger) (tp .term) (tq .term) (L .term) (ledger-of _ _ _ l) (tp .is) (tq .is) (L .is) (v .before .counted .ensures)
+    ∙ ask-answer _ _ _ _ _ (l .ledger) _ (l .is) (l .names) (tp .term) (tp .is) (tq .term) (tq .is) (L .term) (L .is))
 
 pub ask-spec : {M : Type 1} → statement M
 ask-spec =
@@ -152,6 +157,7 @@ ask-spec =
     term-refusal-requires-3
     add-t19
     returns-4
-    counting-requires
+    counted-requires
     judge-requires
+    answered-requires
     returns-5)

@@ -1,8 +1,8 @@
--- `decisions::flows_to` meets its contract. Assumes nothing.
+-- `questions::flows_to` meets its contract. Assumes nothing.
 use Rattle.model.specs.Questions.{flowsTo}
 use borrow.Author.Needs.{needs}
-use Rattle.decisions.proofs.flows_to.Statement.{statement}
-use Rattle.decisions.proofs.flows_to.Tie as tie
+use Rattle.questions.proofs.flows_to.Statement.{statement}
+use Rattle.questions.proofs.flows_to.Tie as tie
 
 ask-requires : tie.Need-ask-requires
 ask-requires c κs = search needs

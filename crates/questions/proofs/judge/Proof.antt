@@ -1,104 +1,112 @@
--- `decisions::judge` meets its contract. The loop's invariant: nothing refutes in the words before w, on either side. Assumes nothing.
-use Prim.Native.Nat.{_-_, _≤_, _<_}
+-- `questions::judge` meets its contract. The loop's invariant: the verdict on the coalitions before word w, none of which refutes on the see side.
+-- Assumes nothing.
+use Prim.Native.Nat.{_*_, _-_, _≤_, _<_}
 use native.Mathlib.Omega.{arith}
-use mathlib.Core.Path.{_≡_}
-use Rattle.model.specs.Answers.{Side, confidentiality, integrity}
-use Rattle.model.specs.Extracts.{mark}
+use mathlib.Core.Path.{_≡_, ap, _∙_}
+use Rattle.model.specs.Answers.{confidentiality}
+use Rattle.model.specs.Grants.{Marks}
+use Rattle.model.specs.Questions.{nowhere, lowest}
 use Rattle.words.specs.AnyBytes.{termIn}
-use Rattle.words.specs.Evaluation.{wordsOf, WordsAt}
+use Rattle.words.specs.Evaluation.{wordsOf}
 use Rattle.words.proofs.Names.{words-few}
-use Rattle.decisions.specs.Promises.{jobOf, soundIn, ClearTo}
-use Rattle.decisions.specs.Answers.{opposedOf, refutersIn}
-use Rattle.decisions.proofs.Tests.{clear-none, clear-more}
-use Rattle.decisions.proofs.Refuting.{refuter-words, clear-both, answer-see, answer-change, answer-yes, clear-lowest}
-use Rattle.decisions.proofs.judge.Statement.{statement}
-use Rattle.decisions.proofs.judge.Tie as tie
+use Rattle.words.proofs.Searches.{lowest-zero}
+use Rattle.soundness.specs.Keeping.{soundIn}
+use Rattle.questions.specs.Searching.{verdictOf, opposedOf, refutersOf, foundTo, Deciding}
+use Rattle.questions.proofs.Searching.{see-still, see-clear, found-none, found-see, found-all, deciding-words}
+use Rattle.questions.proofs.judge.Statement.{statement}
+use Rattle.questions.proofs.judge.Tie as tie
 
 abbrev Inv-loop : tie.InvT-loop
-Inv-loop question ledger n grants marks p q words w₀ w =
-    (words ≡ wordsOf n) × (w ≤ words) × ((s : Side) → ClearTo (jobOf n) (refutersIn question ledger grants marks p q s) w)
+Inv-loop question ledger n grants counted p q words found₀ w₀ found w =
+    (words ≡ wordsOf n) × (w ≤ words)
+    × (lowest (refutersOf question n (soundIn ledger grants counted) (termIn p) (termIn q) confidentiality) (64 * w) ≡ nowhere)
+    × (verdictOf found ≡ foundTo (refutersOf question n (soundIn ledger grants counted) (termIn p) (termIn q)) (64 * w))
 
 abbrev μ-loop : tie.MeasureT-loop
-μ-loop question ledger n grants marks p q words w₀ w = words - w
+μ-loop question ledger n grants counted p q words found₀ w₀ found w = words - w
 
--- the words that are tested are those of the refuters
-words : (c : tie.After-keep-all Inv-loop μ-loop) → let o = c .before .before .before in let a = o .before .before .before .before .before .args in
-    WordsAt (λ s. mark (jobOf (a .n)) (refutersIn (a .question) (a .ledger .now) (a .grants) (a .marks) (a .p .now) (a .q .now) s)) (o .loop .w) (c .keep-all .result .see) (c .keep-all .result .change)
-words c =
-    let o = c .before .before .before in
-    let a = o .before .before .before .before .before .args in
-    let few : o .loop .w < 64 = omega (arith, words-few (a .n)) in
-    refuter-words (a .question) (soundIn (a .ledger .now) (a .grants) (a .marks)) (termIn (a .p .now)) (termIn (a .q .now)) (a .n) (o .loop .w) _ _ few
-    (c .keep-all .ensures (opposedOf (a .question) (a .n) (termIn (a .p .now)) (termIn (a .q .now))) (c .before .opposed .ensures))
+abbrev start : tie.At-loop Inv-loop μ-loop → tie.Start Inv-loop μ-loop
+start o = o .before .before .before .before .before
+
+-- the refuters that are searched for
+abbrev refuters : tie.At-loop Inv-loop μ-loop → Marks
+refuters o =
+    let a = start o .args in
+    refutersOf (a .question) (a .n) (soundIn (a .ledger .now) (a .grants) (a .counted)) (termIn (a .p .now)) (termIn (a .q .now))
+
+few : (c : tie.In-loop Inv-loop μ-loop) → c .before .loop .w < 64
+few c = omega (arith, c .before .loop .inv .0, words-few (start (c .before) .args .n))
+
+-- what is left of word w is what can still decide
+deciding : (c : tie.After-keep-all Inv-loop μ-loop) → let o = c .before .before .before .before in
+    Deciding (refuters o) (o .loop .found) (o .loop .w) (c .keep-all .result .see) (c .keep-all .result .change)
+deciding c =
+    let i = c .before .before .before in
+    let o = i .before in
+    let a = start o .args in
+    record {
+      clear = o .loop .inv .2;
+      so-far = o .loop .inv .3;
+      words = deciding-words (a .question) (a .n) (soundIn (a .ledger .now) (a .grants) (a .counted)) (termIn (a .p .now)) (termIn (a .q .now)) (o .loop .found) (o .loop .w) _ _ (few i)
+          (c .keep-all .ensures _ (c .before .still .ensures (opposedOf (a .question) (a .n) (termIn (a .p .now)) (termIn (a .q .now))) (o .loop .w) (c .before .before .opposed .ensures)));
+    }
 
 word-count-requires : tie.Need-word-count-requires Inv-loop μ-loop
 word-count-requires c κs = tt
 
 loop-holds : tie.Need-loop-holds Inv-loop μ-loop
-loop-holds c = (c .word-count .ensures, omega arith, λ s. clear-none _ _)
+loop-holds c =
+    let a = c .before .before .before .before .args in
+    let R : Marks = refutersOf (a .question) (a .n) (soundIn (a .ledger .now) (a .grants) (a .counted)) (termIn (a .p .now)) (termIn (a .q .now)) in
+    (c .word-count .ensures, omega arith, lowest-zero (R confidentiality), found-none R)
 
 opposed-requires : tie.Need-opposed-requires Inv-loop μ-loop
 opposed-requires c κs = tt
 
+still-requires : tie.Need-still-requires Inv-loop μ-loop
+still-requires c κs = tt
+
 keep-all-requires : tie.Need-keep-all-requires Inv-loop μ-loop
 keep-all-requires c κs = tt
 
-lowest-of-requires : tie.Need-lowest-of-requires Inv-loop μ-loop
-lowest-of-requires c κs = omega (arith, words-few (c .before .before .before .before .before .before .before .before .before .before .args .n))
+further-requires : tie.Need-further-requires Inv-loop μ-loop
+further-requires c κs = tt
 
 returns : tie.Need-returns Inv-loop μ-loop
 returns c =
     let k = c .before .before .before in
-    let o = k .before .before .before in
-    let a = o .before .before .before .before .before .args in
-    answer-see (a .question) _ _ _ (jobOf (a .n)) _ (c .lowest-of .ensures (jobOf (a .n)) _ (o .loop .inv .2 confidentiality) (words k .see-word) (c .before .if1 .taken))
-
-lowest-of-requires-2 : tie.Need-lowest-of-requires-2 Inv-loop μ-loop
-lowest-of-requires-2 c κs = omega (arith, words-few (c .before .before .before .before .before .before .before .before .before .before .before .before .args .n))
-
-add-judge-see : tie.Need-add-judge-see Inv-loop μ-loop
-add-judge-see c = omega (arith, words-few (c .before .before .before .before .before .before .before .before .before .before .before .before .before .args .n))
-
-judge-see-requires : tie.Need-judge-see-requires Inv-loop μ-loop
-judge-see-requires c κs = tt
-
-returns-2 : tie.Need-returns-2 Inv-loop μ-loop
-returns-2 c =
-    let d = c .before in
-    let e = d .before .before .before in
-    let k = e .before .before in
-    let o = k .before .before .before in
-    let a = o .before .before .before .before .before .args in
-    let v = words k in
-    answer-change (a .question) _ _ _ (jobOf (a .n)) _ _
-    (d .lowest-of2 .ensures (jobOf (a .n)) _ (o .loop .inv .2 integrity) (v .change-word) (d .before .if2 .taken))
-    (c .judge-see .ensures (clear-more (jobOf (a .n)) _ (o .loop .w) _ (v .see-word) (o .loop .inv .2 confidentiality) (e .if1 .left)))
+    let i = k .before .before .before in
+    let o = i .before in
+    let a = start o .args in
+    let d = deciding k in
+    c .before .before .further .ensures (refuters o) (few i) d
+    ∙ found-see (refuters o) (o .loop .w) _ (64 * wordsOf (a .n)) (d .clear) (see-still (refuters o) (o .loop .found) (o .loop .w) _ (d .words .see-word)) (c .if1 .taken) (omega arith)
+    ∙ found-all (a .question) (a .n) _ _ _
 
 add-w : tie.Need-add-w Inv-loop μ-loop
-add-w c = omega (arith, words-few (c .before .before .before .before .before .before .before .before .before .before .before .before .args .n))
+add-w c = omega (arith, few (c .before .before .before .before .before .before))
 
 loop-less : tie.Need-loop-less Inv-loop μ-loop
 loop-less c = omega arith
 
 loop-again : tie.Need-loop-again Inv-loop μ-loop
 loop-again c =
-    let e = c .before .before in
-    let k = e .before .before in
-    let o = k .before .before .before in
-    let a = o .before .before .before .before .before .args in (
+    let k = c .before .before .before in
+    let i = k .before .before .before in
+    let o = i .before in
+    let d = deciding k in (
       o .loop .inv .0,
       omega arith,
-      clear-both (jobOf (a .n)) _ (o .loop .w) _ _ (words k) (o .loop .inv .2) (e .if1 .left) (c .if2 .left),
+      see-clear (refuters o) (o .loop .w) _ (d .clear) (see-still (refuters o) (o .loop .found) (o .loop .w) _ (d .words .see-word)) (c .if1 .left),
+      c .before .before .further .ensures (refuters o) (few i) d,
     )
 
-returns-3 : tie.Need-returns-3 Inv-loop μ-loop
-returns-3 c =
+returns-2 : tie.Need-returns-2 Inv-loop μ-loop
+returns-2 c =
     let o = c .before in
-    let a = o .before .before .before .before .before .args in
-    let end = o .loop .inv .2 in
-    answer-yes (a .question) _ _ _ (jobOf (a .n))
-    (clear-lowest (a .n) _ (o .loop .w) (omega arith) (end confidentiality))
-    (clear-lowest (a .n) _ (o .loop .w) (omega arith) (end integrity))
+    let a = start o .args in
+    let end : o .loop .w ≡ wordsOf (a .n) = omega arith in
+    o .loop .inv .3 ∙ rw end (found-all (a .question) (a .n) _ _ _)
 
 pub judge-spec : {M : Type 1} → statement M
 judge-spec =
@@ -109,14 +117,11 @@ judge-spec =
     word-count-requires
     loop-holds
     opposed-requires
+    still-requires
     keep-all-requires
-    lowest-of-requires
+    further-requires
     returns
-    lowest-of-requires-2
-    add-judge-see
-    judge-see-requires
-    returns-2
     add-w
     loop-less
     loop-again
-    returns-3)
+    returns-2)

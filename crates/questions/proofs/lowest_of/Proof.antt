@@ -1,9 +1,9 @@
--- `decisions::lowest_of` meets its contract. Assumes nothing.
+-- `questions::lowest_of` meets its contract. Assumes nothing.
 use native.Mathlib.Omega.{arith}
-use Rattle.decisions.proofs.Refuting.{lowest-small, lowest-coalition}
+use Rattle.questions.proofs.Searching.{lowest-small, lowest-in}
 use borrow.Author.Needs.{needs}
-use Rattle.decisions.proofs.lowest_of.Statement.{statement}
-use Rattle.decisions.proofs.lowest_of.Tie as tie
+use Rattle.questions.proofs.lowest_of.Statement.{statement}
+use Rattle.questions.proofs.lowest_of.Tie as tie
 
 mul-result : tie.Need-mul-result
 mul-result c = search needs
@@ -18,7 +18,7 @@ cast-result : tie.Need-cast-result
 cast-result c = omega (arith, lowest-small _ _ (omega arith) (c .lowest .ensures))
 
 returns : tie.Need-returns
-returns c n f clear e nonzero = lowest-coalition n f _ _ _ (c .lowest .ensures) clear e nonzero
+returns c f = lowest-in f _ _ _ (c .lowest .ensures)
 
 pub lowest-of-spec : {M : Type 1} → statement M
 lowest-of-spec = tie.close (tie.spec mul-result lowest-requires add-result cast-result returns)

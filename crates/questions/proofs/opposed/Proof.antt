@@ -1,8 +1,8 @@
--- `decisions::opposed` meets its contract. Assumes nothing.
+-- `questions::opposed` meets its contract. Assumes nothing.
 use borrow.Author.Needs.{needs}
-use Rattle.decisions.proofs.Refuting.{acts-words, flows-words}
-use Rattle.decisions.proofs.opposed.Statement.{statement}
-use Rattle.decisions.proofs.opposed.Tie as tie
+use Rattle.questions.proofs.Refuting.{acts-words, flows-words}
+use Rattle.questions.proofs.opposed.Statement.{statement}
+use Rattle.questions.proofs.opposed.Tie as tie
 
 low-mask-requires : tie.Need-low-mask-requires
 low-mask-requires c κs = search needs

@@ -1,0 +1,75 @@
+-- The search for the first coalition that refutes, word by word (document 01: "the see side first, then the lowest number that refutes").
+-- Assumes nothing: these are definitions.
+use mathlib.Core.Path.{_≡_}
+use mathlib.Core.Bool.{Bool, false, not, _&&_}
+use Prim.Native.Nat.{ℕ, _+_, _*_, _^_, _<_}
+use lib.Dec.{ltb}
+use Rattle.model.specs.Answers as model
+use Rattle.model.specs.Answers.{Side, confidentiality, integrity}
+use Rattle.model.specs.Terms.{Term, held}
+use Rattle.model.specs.Grants.{Marks}
+use Rattle.model.specs.Questions.{Lowest, nowhere, at, lowest, refutes, ground, judge, across}
+use Rattle.model.specs.Extracts.{mark, packed}
+use Rattle.words.specs.Evaluation.{jobOf, WordsAt}
+use Rattle.questions.specs.declared.Answer.{Answer}
+use Rattle.questions.specs.declared.Answer.the-variants.{Yes, No}
+use Rattle.questions.specs.declared.Question.{Question}
+use Rattle.questions.specs.declared.Question.the-variants.{ActsFor, FlowsTo}
+use Rattle.questions.specs.declared.Verdict.{Verdict}
+use Rattle.questions.specs.declared.Verdict.the-variants.{Holds, Refuted}
+use Rattle.questions.specs.Answers.{sideOf}
+
+-- what each case of a verdict stands for
+abbrev pub verdictOf : Verdict → model.Answer
+verdictOf Holds = model.Yes
+verdictOf (Refuted s c) = model.No (sideOf s) c
+
+-- and as an answer
+abbrev pub verdictAnswer : Verdict → Answer
+verdictAnswer Holds = Yes
+verdictAnswer (Refuted s c) = No s c
+
+-- a coalition that refutes is one of the first and none of the second
+abbrev pub fromOf : Question → Term → Term → Marks
+fromOf ActsFor p q = held p
+fromOf FlowsTo p q = across q p
+
+abbrev pub toOf : Question → Term → Term → Marks
+toOf ActsFor p q = held q
+toOf FlowsTo p q = across p q
+
+-- what is judged, S being the sound coalitions
+abbrev pub judgeOf : Question → ℕ → Marks → Term → Term → model.Answer
+judgeOf question n S p q = judge n S (fromOf question p q) (toOf question p q)
+
+-- of the coalitions of n names, those that refute if they are sound
+abbrev pub opposedOf : Question → ℕ → Term → Term → Marks
+opposedOf question n p q s c = ltb c (2 ^ n) && (fromOf question p q s c && not (toOf question p q s c))
+
+-- of the coalitions of a job of n names, those that refute
+abbrev pub refutersOf : Question → ℕ → Marks → Term → Term → Marks
+refutersOf question n S p q s = mark (jobOf n) (refutes S (fromOf question p q) (toOf question p q) s)
+
+-- r is the lowest coalition of f in word w, where f has none below it
+abbrev pub LowestIn : (ℕ → Bool) → ℕ → ℕ → ℕ → Type 0
+LowestIn f w word r = w < 64 → lowest f (64 * w) ≡ nowhere → word ≡ packed f (64 * w) 64 → (word ≡ 0 → ⊥) → lowest f (64 * (w + 1)) ≡ at r
+
+-- the see side alone
+abbrev pub seeOnly : Marks → Marks
+seeOnly f confidentiality = f confidentiality
+seeOnly f integrity = λ c. false
+
+-- those that can still decide
+abbrev pub stillOf : Verdict → Marks → Marks
+stillOf Holds f = f
+stillOf (Refuted s c) f = seeOnly f
+
+-- the first of the refuters R below k
+abbrev pub foundTo : Marks → ℕ → model.Answer
+foundTo R k = ground (lowest (R confidentiality) k) (lowest (R integrity) k)
+
+-- Before word w the first of the refuters R is the verdict, and none is on the see side; of word w, these are the refuters that can still decide.
+pub record Deciding (R : Marks) (found : Verdict) (w see change : ℕ) : Type 0 where
+  pub clear : lowest (R confidentiality) (64 * w) ≡ nowhere
+  pub so-far : verdictOf found ≡ foundTo R (64 * w)
+  pub words : WordsAt (stillOf found R) w see change

@@ -13,10 +13,11 @@ use Rattle.model.specs.Derivations.{ofGrant}
 use Rattle.model.specs.Meanings.{grantBits}
 use Rattle.model.proofs.Prefixes.{ofGrant-getD, ofGrant-past}
 use Rattle.model.proofs.Stands.{LedgerStands, ledger-stands}
+use Rattle.ledgers.specs.Readings.{LedgerOf}
 use Rattle.words.proofs.AnyBytes.{term-in, grant-in}
 use Rattle.words.proofs.Names.{job-is}
 use Rattle.words.proofs.Packing.{packed-cong}
-use Rattle.counting.specs.Counted.{countsIn, countedIn, LedgerOf}
+use Rattle.counting.specs.Counted.{countsIn, countedIn}
 
 -- what stands for a grant past the last
 abbrev noGrant : Grant

@@ -28,9 +28,3 @@ pub record GrantGiven (n : ℕ) (see change q d : List ℕ) (L : Term) (g : Gran
   pub change-words : Tabled L integrity (wordsOf n) change
   pub q-is : g .q ≡ termIn q
   pub label-is : g .label ≡ termIn d
-
--- The bytes are a ledger of n names and `grants` grants.
-pub record LedgerOf (bytes : List ℕ) (n grants : ℕ) (l : Ledger) : Type 0 where
-  pub is : readLedger bytes ≡ accepted l
-  pub names : n ≡ l .names
-  pub count : grants ≡ length (l .grants)

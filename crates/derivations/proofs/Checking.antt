@@ -19,12 +19,14 @@ use Rattle.model.proofs.Truth.{and-right}
 use Rattle.model.proofs.Stands.{ledger-stands}
 use Rattle.terms.specs.Readings.{termReading}
 use Rattle.terms.proofs.Accepted.{AcceptedTerm}
-use Rattle.ledgers.proofs.Accepted.{AcceptedLedger}
+use Rattle.ledgers.specs.Readings.{LedgerOf}
+use Rattle.ledgers.proofs.Accepted.{AcceptedLedger, ledger-of}
 use Rattle.terms.specs.declared.TermReading.{TermReading}
 use Rattle.terms.specs.declared.TermReading.the-variants.{Accepted as TermAccepted, Refused as TermRefused}
-use Rattle.counting.specs.Counted.{countedIn, LedgerOf}
-use Rattle.decisions.proofs.Accepted.{marks-say, counting-in}
-use Rattle.decisions.proofs.Asking.{ledger-of}
+use Rattle.counting.specs.Counted.{countedIn}
+use Rattle.model.specs.Meanings.{grantBits}
+use Rattle.model.proofs.Prefixes.{bits-say}
+use Rattle.counting.proofs.Accepted.{counted-in}
 use Rattle.derivations.specs.Steps.{readField, readStep, premisesBefore, Ready, meetsAt, checkAt, stepCheck}
 use Rattle.derivations.specs.declared.StepCheck.{StepCheck}
 use Rattle.derivations.specs.declared.StepCheck.the-variants.{Accepted, Refused}
@@ -81,7 +83,7 @@ module _ (ledger : List ℕ) (n grants : ℕ) (l : Ledger) (of : LedgerOf ledger
       record { is = of .is; names = of .names; left-read = passed .0; right-read = passed .1; grant-there = rw (← of .count) g }
 
   -- the answer for step k, from what each test said
-  pub check-told : (d : List ℕ) (k : ℕ) → step ≡ stepAt d k → (L : Term) (marks : ℕ) → marks ≡ countingMarks n L l → (read : StepCheck) (earlier exists counted met : Bool)
+  pub check-told : (d : List ℕ) (k : ℕ) → step ≡ stepAt d k → (L : Term) (marks : ℕ) → marks ≡ grantBits (counts n L) (l .grants) → (read : StepCheck) (earlier exists counted met : Bool)
       → stepCheck (readStep n (ruleOf (byte 0 step)) step) ≡ read
       → premisesBefore (ruleOf (byte 0 step)) step k ≡ earlier
       → (not (usesOf (ruleOf (byte 0 step)) .grant) || ltb (byte 3 step) grants) ≡ exists
@@ -94,7 +96,7 @@ module _ (ledger : List ℕ) (n grants : ℕ) (l : Ledger) (of : LedgerOf ledger
       let here : stepCheck (readStep (l .names) r step) ≡ read = rw (← of .names) e in
       let there : (not (usesOf r .grant) || ltb (byte 3 step) (length (l .grants))) ≡ exists = rw (← of .count) g in
       let many : length (l .grants) ≤ 64 = ledger-stands ledger l (of .is) .count-most in
-      let each : member (byte 3 step) marks ≡ ofGrant (counts n L) (l .grants) (byte 3 step) = rw are (marks-say (counts n L) (l .grants) (byte 3 step) many) in
+      let each : member (byte 3 step) marks ≡ ofGrant (counts n L) (l .grants) (byte 3 step) = rw are (bits-say (counts n L) (l .grants) (byte 3 step) many) in
       let one : (not (usesOf r .grant) || ofGrant (counts (l .names) L) (l .grants) (byte 3 step)) ≡ counted = rw (← of .names, ← each) h in
       subst (λ (s : List ℕ). stepCheck (checkStep l L d k s (ruleOf (byte 0 s))) ≡ onRead read (tests earlier exists counted met)) at
       (read-then (stepForm r step) (isAccepted (readLeft (l .names) step)) (isAccepted (readRight (l .names) step)) _
@@ -159,12 +161,12 @@ module _ (d ledger label : List ℕ) where
 
       -- what the steps' check says of the marks, and what the marks are
       pub steps-checked : (marks : ℕ) (answer : Answer) → derivationLength (length d) ≡ true
-          → marks ≡ countingIn ledger n k label
-          → ((l : Ledger) (L : Term) → LedgerOf ledger n k l → marks ≡ countingMarks n L l → answer ≡ checkSteps l L d 0 (stepCount d))
+          → marks ≡ countedIn ledger n k label
+          → ((l : Ledger) (L : Term) → LedgerOf ledger n k l → marks ≡ grantBits (counts n L) (l .grants) → answer ≡ checkSteps l L d 0 (stepCount d))
           → answer ≡ checkDerivation d ledger label
       steps-checked marks answer e counted checked =
           let of = ledger-of ledger n k read in
-          rw (both-accepted (term .term) (term .is), e) (checked (read .ledger) (term .term) of (counted ∙ counting-in ledger n k (read .ledger) of (term .term) label (term .is)))
+          rw (both-accepted (term .term) (term .is), e) (checked (read .ledger) (term .term) of (counted ∙ counted-in ledger n k (read .ledger) of (term .term) label (term .is)))
 
 -- ---- quoting
 

@@ -16,8 +16,8 @@ use Rattle.model.proofs.Stands.{ledger-stands}
 use Rattle.model.proofs.Prefixes.{ofGrant-getD}
 use Rattle.words.specs.AnyBytes.{termIn}
 use Rattle.words.proofs.AnyBytes.{term-in}
-use Rattle.decisions.specs.Promises.{jobOf}
-use Rattle.decisions.proofs.Accepted.{job-is}
+use Rattle.words.specs.Evaluation.{jobOf}
+use Rattle.words.proofs.Names.{job-is}
 use Rattle.derivations.specs.Steps.{Ready, meetsAt}
 
 -- the rule is the one that byte 0 names, and the premises are the steps that bytes 1 and 2 name

@@ -8,12 +8,13 @@ ghost use Prim.Native.Nat.{_+_, _*_, _≤_, _<_};
 ghost use lib.Dec.{eqb, ltb};
 ghost use lib.ListN.{length};
 ghost use Rattle.model.specs.Bytes.{byte, same};
-ghost use Rattle.model.specs.Answers.{number};
 ghost use Rattle.model.specs.Terms.{Term, member};
+ghost use Rattle.model.specs.Grants.{counts};
 ghost use Rattle.model.specs.Ledgers.{Ledger};
+ghost use Rattle.model.specs.Meanings.{grantBits};
 ghost use Rattle.model.specs.Derivations.{stepAt, left, right, transitive, conjunction, disjunction, ruleOf, isRule, usesOf, stepForm, before, meets, checkSteps, derivationLength, stepCount, checkDerivation, quote};
 ghost use Rattle.terms.specs.Readings.{termReading};
-ghost use Rattle.decisions.specs.Promises.{LedgerOf, countingMarks};
+ghost use Rattle.ledgers.specs.Readings.{LedgerOf};
 ghost use Rattle.derivations.specs.Steps.{fieldsForm, pastTerm, fillerForm, readField, readStep, premisesBefore, joins, Ready, meetsAt, checkAt, stepCheck, stepRefusal};
 ghost use Rattle.derivations.specs.Answers.{answerOf};
 
@@ -242,26 +243,26 @@ fn grant_exists(step: &[u8], grants: usize) -> bool
     !used || (step[3] as usize) < grants
 }
 
-// Bit k of the marks.
-fn marked(marks: u64, k: usize) -> bool
-    ensures { λ r. ⌜ r ≡ member k marks ⌝ }
+// Bit k is set.
+fn bit_set(bits: u64, k: usize) -> bool
+    ensures { λ r. ⌜ r ≡ member k bits ⌝ }
 {
     if 64 <= k {
         return false;
     }
-    (marks >> k) % 2 == 1
+    (bits >> k) % 2 == 1
 }
 
-// The grant is marked as one that counts, where the rule uses it: 66 where not.
-fn grant_marked(step: &[u8], marks: u64) -> bool
+// The grant counts, where the rule uses it: 66 where not.
+fn grant_counts(step: &[u8], counted: u64) -> bool
     requires { ⌜ 136 ≤ length (now step) ⌝ }
-    ensures { λ r. ⌜ r ≡ (not (usesOf (ruleOf (byte 0 (now (step .entry)))) .grant) || member (byte 3 (now (step .entry))) marks) ⌝ }
+    ensures { λ r. ⌜ r ≡ (not (usesOf (ruleOf (byte 0 (now (step .entry)))) .grant) || member (byte 3 (now (step .entry))) counted) ⌝ }
 {
     let used = uses_grant(step[0]);
     if !used {
         return true;
     }
-    marked(marks, step[3] as usize)
+    bit_set(counted, step[3] as usize)
 }
 
 // Rule 2: the step's terms are p and q, the grant's.
@@ -367,17 +368,17 @@ fn meets(derivation: &[u8], step: &[u8], ledger: &[u8], n: u64) -> bool
     }
 }
 
-// Step k of the derivation: the first refusal of 61 to 67. Bit g of the marks says whether grant g counts.
+// Step k of the derivation: the first refusal of 61 to 67. Bit g of `counted` says whether grant g counts.
 fn check_step(
     derivation: &[u8],
     k: usize,
     ledger: &[u8],
     n: u64,
     grants: usize,
-    marks: u64,
+    counted: u64,
 ) -> StepCheck
     requires { ⌜ 136 * (k + 1) ≤ length (now derivation) ⌝ }
-    ensures { λ r. ⌜ ((l : Ledger) (L : Term) → LedgerOf (now (ledger .entry)) n grants l → marks ≡ countingMarks n L l → r ≡ stepCheck (checkAt l L (now (derivation .entry)) k)) ⌝ }
+    ensures { λ r. ⌜ ((l : Ledger) (L : Term) → LedgerOf (now (ledger .entry)) n grants l → counted ≡ grantBits (counts n L) (l .grants) → r ≡ stepCheck (checkAt l L (now (derivation .entry)) k)) ⌝ }
 {
     let step = step_at(derivation, k);
     let read = read_step(step, n);
@@ -392,7 +393,7 @@ fn check_step(
     if !exists {
         return StepCheck::Refused(65);
     }
-    let counts = grant_marked(step, marks);
+    let counts = grant_counts(step, counted);
     if !counts {
         return StepCheck::Refused(66);
     }
@@ -423,14 +424,14 @@ pub enum Checked {
 }
 
 // The steps, one after another.
-fn check_steps(derivation: &[u8], ledger: &[u8], n: u64, grants: usize, marks: u64) -> Checked
+fn check_steps(derivation: &[u8], ledger: &[u8], n: u64, grants: usize, counted: u64) -> Checked
     requires { ⌜ length (now derivation) ≤ 8704 ⌝ }
-    ensures { λ r. ⌜ ((l : Ledger) (L : Term) → LedgerOf (now (ledger .entry)) n grants l → marks ≡ countingMarks n L l → answerOf r ≡ checkSteps l L (now (derivation .entry)) 0 (stepCount (now (derivation .entry)))) ⌝ }
+    ensures { λ r. ⌜ ((l : Ledger) (L : Term) → LedgerOf (now (ledger .entry)) n grants l → counted ≡ grantBits (counts n L) (l .grants) → answerOf r ≡ checkSteps l L (now (derivation .entry)) 0 (stepCount (now (derivation .entry)))) ⌝ }
 {
     let steps = derivation.len() / 136;
     let mut k: usize = 0;
     while k < steps {
-        let check = check_step(derivation, k, ledger, n, grants, marks);
+        let check = check_step(derivation, k, ledger, n, grants, counted);
         let StepCheck::Accepted = check else {
             return Checked::RefusedAt(k as u8, step_refusal(check));
         };
@@ -477,15 +478,4 @@ pub fn quote<'a, 'b>(derivation: &'b [u8], ledger: &'a [u8], label: &[u8], step:
         return &ledger[..0];
     }
     ledgers::grant_block(ledger, quoted[3] as usize)
-}
-
-// The one number that the answer is to C.
-pub fn checked_number(checked: Checked) -> u32
-    ensures { λ r. ⌜ r ≡ number (answerOf checked) ⌝ }
-{
-    match checked {
-        Checked::Accepted => 0,
-        Checked::Refused(r) => 2 * 65536 + r as u32,
-        Checked::RefusedAt(step, r) => 2 * 65536 + (step as u32 * 256 + r as u32),
-    }
 }

@@ -1,13 +1,14 @@
 -- What a caller of the ledger reader knows from its answer. Assumes nothing.
 use Prim.Native.Nat.{ℕ}
 use native.Mathlib.Omega.{arith}
-use mathlib.Core.Path.{_≡_, refl}
+use mathlib.Core.Path.{_≡_, refl, sym, ap, _∙_}
 use mathlib.Core.List.{List}
 use lib.ListN.{length}
 use Rattle.model.specs.Bytes.{Reading, accepted, refused}
 use Rattle.model.specs.Ledgers.{Ledger, readLedger}
 use Rattle.model.proofs.Stands.{LedgerStands, ledger-stands}
-use Rattle.ledgers.specs.Readings.{ledgerReading}
+use Rattle.ledgers.specs.Readings.{ledgerReading, ledgerRefusal, LedgerOf}
+use Rattle.ledgers.specs.declared.LedgerReading.{LedgerReading}
 use Rattle.ledgers.specs.declared.LedgerReading.the-variants.{Accepted, Refused}
 
 -- An accepted list of bytes is a ledger of n names and k grants, and each grant's terms stand in its block: no second reading is needed.
@@ -26,9 +27,16 @@ accepted-ledger bytes n k e = by (readLedger bytes) refl e
     by (refused r) f g = absurd (let z : _≡_ {A = ℕ} 0 1 = cc in omega arith)
 
 -- A refusal that the code hands back is document 01's.
-pub refused-ledger : (bytes : List ℕ) (r : ℕ) → ledgerReading (readLedger bytes) ≡ Refused r → readLedger bytes ≡ refused r
+refused-ledger : (bytes : List ℕ) (r : ℕ) → ledgerReading (readLedger bytes) ≡ Refused r → readLedger bytes ≡ refused r
 refused-ledger bytes r e = by (readLedger bytes) e
   where
     by : (a : Reading Ledger) → ledgerReading a ≡ Refused r → a ≡ refused r
     by (accepted l) f = cc
     by (refused k) f = cc
+
+-- the number that the code hands on is the reader's refusal
+pub ledger-refused : (bytes : List ℕ) (s : LedgerReading) (k r : ℕ) → s ≡ ledgerReading (readLedger bytes) → s ≡ Refused k → r ≡ ledgerRefusal s → readLedger bytes ≡ refused r
+ledger-refused bytes s k r a b e = refused-ledger bytes k (sym a ∙ b) ∙ ap refused (sym (e ∙ ap ledgerRefusal b))
+
+pub ledger-of : (bytes : List ℕ) (n grants : ℕ) (a : AcceptedLedger bytes n grants) → LedgerOf bytes n grants (a .ledger)
+ledger-of bytes n grants a = record { is = a .is; names = sym (a .names); count = sym (a .count) }

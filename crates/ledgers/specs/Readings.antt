@@ -1,9 +1,11 @@
 -- What each case of the readers' answers stands for, in the words and numbers of document 01, "The ledger" and "Refusals by operation".
 -- Assumes nothing: these are definitions.
+use mathlib.Core.Path.{_≡_}
+use mathlib.Core.List.{List}
 use Prim.Native.Nat.{ℕ}
 use lib.ListN.{length}
 use Rattle.model.specs.Bytes.{Reading, accepted, refused}
-use Rattle.model.specs.Ledgers.{Ledger}
+use Rattle.model.specs.Ledgers.{Ledger, readLedger}
 use Rattle.ledgers.specs.declared.GrantReading.{GrantReading}
 use Rattle.ledgers.specs.declared.GrantReading.the-variants.{Accepted, Refused}
 use Rattle.ledgers.specs.declared.LedgerReading.{LedgerReading}
@@ -27,3 +29,9 @@ ledgerReading (refused r) = RefusedLedger r
 abbrev pub ledgerRefusal : LedgerReading → ℕ
 ledgerRefusal (AcceptedLedger n k) = 0
 ledgerRefusal (RefusedLedger r) = r
+
+-- The bytes are a ledger of n names and `grants` grants.
+pub record LedgerOf (bytes : List ℕ) (n grants : ℕ) (l : Ledger) : Type 0 where
+  pub is : readLedger bytes ≡ accepted l
+  pub names : n ≡ l .names
+  pub count : grants ≡ length (l .grants)

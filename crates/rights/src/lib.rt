@@ -1,6 +1,8 @@
 // The entry points for C (document 01: "The workflow program in C calls all of these but quoting"). Each asks nothing of its caller, calls one
 // proved function, and gives its answer as one number.
+use derivations::Checked;
 use extracts::Extracted;
+use questions::{Answer, Side};
 use short_forms::ShortForm;
 ghost use mathlib.Core.Path.{_≡_};
 ghost use Rattle.model.specs.Answers.{number};
@@ -8,13 +10,40 @@ ghost use Rattle.model.specs.Questions.{actsFor, flowsTo};
 ghost use Rattle.model.specs.Extracts.{extract};
 ghost use Rattle.model.specs.ShortForms.{shorten};
 ghost use Rattle.model.specs.Derivations.{checkDerivation};
+ghost use Rattle.questions.specs.Answers.{answerOf};
+ghost use Rattle.derivations.specs.Answers.{answerOf as checkedOf};
+
+// An answer as the one number that it is to C.
+fn answer_number(answer: Answer) -> u32
+    ensures { λ r. ⌜ r ≡ number (answerOf answer) ⌝ }
+{
+    match answer {
+        Answer::Yes => 0,
+        Answer::No(side, coalition) => match side {
+            Side::See => 65536 + coalition as u32,
+            Side::Change => 65536 + 4096 + coalition as u32,
+        },
+        Answer::Refused(refusal) => 131072 + refusal as u32,
+    }
+}
+
+// The one number that the answer is to C.
+fn checked_number(checked: Checked) -> u32
+    ensures { λ r. ⌜ r ≡ number (checkedOf checked) ⌝ }
+{
+    match checked {
+        Checked::Accepted => 0,
+        Checked::Refused(r) => 2 * 65536 + r as u32,
+        Checked::RefusedAt(step, r) => 2 * 65536 + (step as u32 * 256 + r as u32),
+    }
+}
 
 // Does p act for q under the label?
 #[no_mangle]
 pub extern "C" fn rights_acts_for(ledger: &[u8], p: &[u8], q: &[u8], label: &[u8]) -> u32
     ensures { λ r. ⌜ r ≡ number (actsFor (now (ledger .entry)) (now (p .entry)) (now (q .entry)) (now (label .entry))) ⌝ }
 {
-    decisions::answer_number(decisions::acts_for(ledger, p, q, label))
+    answer_number(questions::acts_for(ledger, p, q, label))
 }
 
 // Does p flow to q under the label?
@@ -22,7 +51,7 @@ pub extern "C" fn rights_acts_for(ledger: &[u8], p: &[u8], q: &[u8], label: &[u8
 pub extern "C" fn rights_flows_to(ledger: &[u8], p: &[u8], q: &[u8], label: &[u8]) -> u32
     ensures { λ r. ⌜ r ≡ number (flowsTo (now (ledger .entry)) (now (p .entry)) (now (q .entry)) (now (label .entry))) ⌝ }
 {
-    decisions::answer_number(decisions::flows_to(ledger, p, q, label))
+    answer_number(questions::flows_to(ledger, p, q, label))
 }
 
 // Writes the extract of the ledger under the label.
@@ -56,5 +85,5 @@ pub extern "C" fn rights_short_form(n: u64, term: &[u8], buffer: &mut [u8]) -> u
 pub extern "C" fn rights_check_derivation(derivation: &[u8], ledger: &[u8], label: &[u8]) -> u32
     ensures { λ r. ⌜ r ≡ number (checkDerivation (now (derivation .entry)) (now (ledger .entry)) (now (label .entry))) ⌝ }
 {
-    derivations::checked_number(derivations::check_derivation(derivation, ledger, label))
+    checked_number(derivations::check_derivation(derivation, ledger, label))
 }

@@ -8,14 +8,18 @@ use lib.ListN.{length, take, getD}
 use lib.Seq.{take-all}
 use Rattle.model.specs.Answers.{Side}
 use Rattle.model.specs.Bytes.{accepted}
-use Rattle.model.specs.Terms.{top, member}
-use Rattle.model.specs.Grants.{Grant, implies, every, keeps, chosen, sound}
+use Rattle.model.specs.Terms.{Term, top, readTerm, member}
+use Rattle.model.specs.Grants.{Grant, implies, every, keeps, counts, chosen, sound}
 use Rattle.model.specs.Ledgers.{Ledger, readLedger}
+use Rattle.model.specs.Questions.{soundUnder}
 use Rattle.model.specs.Meanings.{grantBits}
 use Rattle.model.proofs.Prefixes.{ofGrant-getD, bits-say, sound-none, sound-more}
 use Rattle.model.proofs.Stands.{ledger-stands}
 use Rattle.words.specs.AnyBytes.{grantIn}
 use Rattle.words.proofs.AnyBytes.{grant-in}
+use Rattle.ledgers.specs.Readings.{LedgerOf}
+use Rattle.counting.specs.Counted.{countedIn}
+use Rattle.counting.proofs.Accepted.{counted-in}
 use Rattle.soundness.specs.Keeping.{soundIn}
 
 -- what stands for a grant past the last
@@ -23,7 +27,7 @@ abbrev noGrant : Grant
 noGrant = record { p = top; q = top; label = top }
 
 -- the coalitions that keep the grants of these bits are those that keep the grants at which the test holds
-pub sound-in : (bytes : List ℕ) (grants : ℕ) (l : Ledger) (f : Grant → Bool) → readLedger bytes ≡ accepted l → grants ≡ length (l .grants)
+sound-in : (bytes : List ℕ) (grants : ℕ) (l : Ledger) (f : Grant → Bool) → readLedger bytes ≡ accepted l → grants ≡ length (l .grants)
     → (s : Side) (c : ℕ) → soundIn bytes grants (grantBits f (l .grants)) s c ≡ sound (chosen f (l .grants)) s c
 unfolding soundIn every
 sound-in bytes grants l f is count s c = first grants (omega arith) ∙ rw (take-all grants (l .grants) (omega arith))
@@ -43,3 +47,10 @@ sound-in bytes grants l f is count s c = first grants (omega arith) ∙ rw (take
     first : (k : ℕ) → k ≤ grants → every test k ≡ sound (chosen f (take k (l .grants))) s c
     first zero b = sym (sound-none f s c (l .grants))
     first (suc k) b = ap₂ _&&_ (first k (omega arith)) (each k (omega arith)) ∙ sym (sound-more f s c (l .grants) k noGrant (omega arith))
+
+-- with the bits of the grants that count under a label, these are the sound coalitions
+pub sound-counted : (bytes label : List ℕ) (n grants counted : ℕ) (l : Ledger) (L : Term) → LedgerOf bytes n grants l → readTerm n label ≡ accepted L
+    → counted ≡ countedIn bytes n grants label → (s : Side) (c : ℕ) → soundIn bytes grants counted s c ≡ soundUnder l L s c
+unfolding soundUnder
+sound-counted bytes label n grants counted l L of e is s c =
+    rw (is ∙ counted-in bytes n grants l of L label e) (sound-in bytes grants l (counts n L) (of .is) (of .count) s c ∙ rw (of .names))

@@ -5,9 +5,11 @@ use mathlib.Core.Path.{_≡_, refl, sym, _∙_}
 use mathlib.Core.Bool.{Bool, true}
 use lib.ListN.{length}
 use Rattle.model.specs.Terms.{Term}
+use Rattle.model.specs.Grants.{counts}
 use Rattle.model.specs.Ledgers.{Ledger}
+use Rattle.model.specs.Meanings.{grantBits}
 use Rattle.model.proofs.Blocks.{length-field}
-use Rattle.decisions.specs.Promises.{LedgerOf, countingMarks}
+use Rattle.ledgers.specs.Readings.{LedgerOf}
 use borrow.Author.Tests.{not-true, not-false}
 use Rattle.derivations.specs.Steps.{checkAt, stepCheck}
 use Rattle.derivations.proofs.Checking.{tests, check-told, ready-for}
@@ -23,7 +25,7 @@ long c =
 
 -- after the tests of the rest, the answer is that for the rule
 last : (c : tie.After-meets) (l : Ledger) (L : Term) → let a = c .before .before .before .before .before .before .before .before .before .before .before .before .before .args in
-    LedgerOf (a .ledger .now) (a .n) (a .grants) l → a .marks ≡ countingMarks (a .n) L l → (met : Bool) → c .meets .result ≡ met → stepCheck (checkAt l L (a .derivation .now) (a .k)) ≡ tests true true true met
+    LedgerOf (a .ledger .now) (a .n) (a .grants) l → a .counted ≡ grantBits (counts (a .n) L) (l .grants) → (met : Bool) → c .meets .result ≡ met → stepCheck (checkAt l L (a .derivation .now) (a .k)) ≡ tests true true true met
 last c l L of are met e =
     let three = c .before in
     let two = three .before .before in
@@ -35,7 +37,7 @@ last c l L of are met e =
     (sym (read .before .before .read-step .ensures) ∙ read .enum-told .given .1)
     (sym (one .before .premises-before .ensures) ∙ not-false (one .before .premises-before .result) (one .if1 .left))
     (sym (two .before .grant-exists .ensures) ∙ not-false (two .before .grant-exists .result) (two .if2 .left))
-    (sym (three .before .grant-marked .ensures) ∙ not-false (three .before .grant-marked .result) (three .if3 .left))
+    (sym (three .before .grant-counts .ensures) ∙ not-false (three .before .grant-counts .result) (three .if3 .left))
     (sym (c .meets .ensures l ready) ∙ e)
 
 step-at-requires : tie.Need-step-at-requires
@@ -77,8 +79,8 @@ returns-3 c = λ l L of are.
     (sym (one .before .premises-before .ensures) ∙ not-false (one .before .premises-before .result) (one .if1 .left))
     (sym (c .before .grant-exists .ensures) ∙ not-true (c .before .grant-exists .result) (c .if2 .taken)) refl refl)
 
-grant-marked-requires : tie.Need-grant-marked-requires
-grant-marked-requires c κs = long (c .before .before .before .before .before .before .before)
+grant-counts-requires : tie.Need-grant-counts-requires
+grant-counts-requires c κs = long (c .before .before .before .before .before .before .before)
 
 returns-4 : tie.Need-returns-4
 returns-4 c = λ l L of are.
@@ -89,7 +91,7 @@ returns-4 c = λ l L of are.
     (sym (read .before .before .read-step .ensures) ∙ read .enum-told .given .1)
     (sym (one .before .premises-before .ensures) ∙ not-false (one .before .premises-before .result) (one .if1 .left))
     (sym (two .before .grant-exists .ensures) ∙ not-false (two .before .grant-exists .result) (two .if2 .left))
-    (sym (c .before .grant-marked .ensures) ∙ not-true (c .before .grant-marked .result) (c .if3 .taken)) refl)
+    (sym (c .before .grant-counts .ensures) ∙ not-true (c .before .grant-counts .result) (c .if3 .taken)) refl)
 
 meets-requires : tie.Need-meets-requires
 meets-requires c κs = long (c .before .before .before .before .before .before .before .before .before)
@@ -113,7 +115,7 @@ check-step-spec =
     returns-2
     grant-exists-requires
     returns-3
-    grant-marked-requires
+    grant-counts-requires
     returns-4
     meets-requires
     returns-5

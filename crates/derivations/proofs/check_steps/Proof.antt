@@ -6,9 +6,11 @@ use mathlib.Core.Path.{_≡_, sym, ap, _∙_}
 use borrow.Author.Needs.{needs}
 use Rattle.model.specs.Answers.{RefusedAt}
 use Rattle.model.specs.Terms.{Term}
+use Rattle.model.specs.Grants.{counts}
 use Rattle.model.specs.Ledgers.{Ledger}
+use Rattle.model.specs.Meanings.{grantBits}
 use Rattle.model.specs.Derivations.{checkSteps, stepCount}
-use Rattle.decisions.specs.Promises.{LedgerOf, countingMarks}
+use Rattle.ledgers.specs.Readings.{LedgerOf}
 use Rattle.derivations.specs.Steps.{stepRefusal}
 use Rattle.derivations.specs.declared.StepCheck.{StepCheck}
 use Rattle.derivations.proofs.Checking.{onCheck, stepsFrom, steps-start, steps-more, steps-end}
@@ -16,15 +18,15 @@ use Rattle.derivations.proofs.check_steps.Statement.{statement}
 use Rattle.derivations.proofs.check_steps.Tie as tie
 
 abbrev Inv-loop : tie.InvT-loop
-Inv-loop derivation ledger n grants marks steps k₀ k =
-    (l : Ledger) (L : Term) → LedgerOf ledger n grants l → marks ≡ countingMarks n L l → stepsFrom l L derivation k ≡ checkSteps l L derivation 0 (stepCount derivation)
+Inv-loop derivation ledger n grants counted steps k₀ k =
+    (l : Ledger) (L : Term) → LedgerOf ledger n grants l → counted ≡ grantBits (counts n L) (l .grants) → stepsFrom l L derivation k ≡ checkSteps l L derivation 0 (stepCount derivation)
 
 abbrev μ-loop : tie.MeasureT-loop
-μ-loop derivation ledger n grants marks steps k₀ k = steps - k
+μ-loop derivation ledger n grants counted steps k₀ k = steps - k
 
 -- after the answer s for step k: the answer for all steps
 more : (c : tie.After-check-step Inv-loop μ-loop) (l : Ledger) (L : Term) → let a = c .before .before .before .before .before .args in
-    LedgerOf (a .ledger .now) (a .n) (a .grants) l → a .marks ≡ countingMarks (a .n) L l → (s : StepCheck) → c .check-step .result ≡ s
+    LedgerOf (a .ledger .now) (a .n) (a .grants) l → a .counted ≡ grantBits (counts (a .n) L) (l .grants) → (s : StepCheck) → c .check-step .result ≡ s
     → onCheck (c .before .before .loop .k) s (stepsFrom l L (a .derivation .now) (c .before .before .loop .k + 1)) ≡ checkSteps l L (a .derivation .now) 0 (stepCount (a .derivation .now))
 more c l L of are s e =
     let loop = c .before .before .loop in

@@ -10,12 +10,12 @@ use Rattle.model.specs.Grants.{Marks}
 use Rattle.model.specs.Questions.{soundUnder}
 use Rattle.model.specs.Extracts.{table}
 use Rattle.model.proofs.Table.{table-cong}
-use Rattle.terms.proofs.Accepted.{AcceptedTerm, accepted-term}
+use Rattle.terms.proofs.Accepted.{AcceptedTerm, accepted-term, term-refused, refusal-small}
+use Rattle.ledgers.proofs.Accepted as ledgers
 use Rattle.ledgers.proofs.Accepted.{AcceptedLedger, accepted-ledger}
-use Rattle.counting.specs.Counted.{LedgerOf}
-use Rattle.counting.proofs.Accepted.{counted-in}
+use Rattle.ledgers.specs.Readings.{LedgerOf}
 use Rattle.soundness.specs.Keeping.{soundIn}
-use Rattle.soundness.proofs.Accepted.{sound-in}
+use Rattle.soundness.proofs.Accepted.{sound-counted}
 use Rattle.extracts.specs.Halves.{Halves}
 use Rattle.extracts.proofs.Outcomes.{see-length, change-length, halves-table, size-refused, ledger-refused, label-refused, table-written}
 use Rattle.extracts.proofs.extract.Statement.{statement}
@@ -56,7 +56,7 @@ label-of : (c : tie.After-enum-told2) → AcceptedTerm (names (known c)) (labelI
 label-of c = accepted-term (names (known c)) (labelIn (sized (known c))) (sym (c .before .before .read-term .ensures) ∙ c .enum-told2 .given .1)
 
 ledger-is : (c : tie.After-known-told) → LedgerOf (ledgerIn (sized c)) (names c) (count c) (ledger-of c .ledger)
-ledger-is c = asking.ledger-of _ _ _ (ledger-of c)
+ledger-is c = ledgers.ledger-of _ _ _ (ledger-of c)
 
 -- nothing can be refused any more
 abbrev accepted : tie.After-mark-sound → tie.After-enum-told2
@@ -64,7 +64,7 @@ accepted c = c .before .before .before .before
 
 -- both halves have the marks of those that keep each grant whose bit is set
 abbrev marks : tie.After-mark-sound → Marks
-marks c = soundIn (ledgerIn (sized (known (accepted c)))) (count (known (accepted c))) (c .before .before .before .counting .result)
+marks c = soundIn (ledgerIn (sized (known (accepted c)))) (count (known (accepted c))) (c .before .before .before .counted .result)
 
 halves : (c : tie.After-mark-sound) → Halves (names (known (accepted c))) (marks c) (c .mark-sound .last .1 .1 .1 .1 .0) (c .mark-sound .last .1 .1 .1 .1 .1 .0)
 halves c = c .mark-sound .ensures
@@ -73,7 +73,7 @@ halves c = c .mark-sound .ensures
 sound-table : (c : tie.After-mark-sound) → let k = known (accepted c) in table (names k) (marks c) ≡ table (names k) (soundUnder (ledger-of k .ledger) (label-of (accepted c) .term))
 sound-table c =
     let L = label-of (accepted c) in
-    table-cong _ _ _ (λ s d _. sound-counted _ _ _ _ (ledger-is (known (accepted c))) (L .term) _ _ (L .is) (c .before .before .before .counting .ensures) s d)
+    table-cong _ _ _ (λ s d _. sound-counted _ _ _ _ _ _ (L .term) (ledger-is (known (accepted c))) (L .is) (c .before .before .before .counted .ensures) s d)
 
 returns : tie.Need-returns
 returns c = let a = c .before .before .before .before .args in size-refused (a .ledger .now) (a .label .now) (a .buffer .now) (λ e. omega arith)
@@ -94,7 +94,7 @@ returns-2 : tie.Need-returns-2
 returns-2 c =
     let s = c .before .before .before .before in
     let told = c .before .enum-told .given .1 in
-    ledger-refused (ledgerIn s) (labelIn s) (bufferIn s) (fits s) _ (asking.ledger-refused _ _ _ _ (c .before .before .before .read-ledger .ensures) told (c .ledger-refusal .ensures))
+    ledger-refused (ledgerIn s) (labelIn s) (bufferIn s) (fits s) _ (ledgers.ledger-refused _ _ _ _ (c .before .before .before .read-ledger .ensures) told (c .ledger-refusal .ensures))
 
 read-term-requires : tie.Need-read-term-requires
 read-term-requires c κs = search needs
@@ -109,7 +109,7 @@ term-refusal-requires : tie.Need-term-refusal-requires
 term-refusal-requires c κs = search needs
 
 add-refusal : tie.Need-add-refusal
-add-refusal c = omega (arith, asking.refusal-small _ _ _ _ (c .before .before .before .read-term .ensures) (c .term-refusal .ensures))
+add-refusal c = omega (arith, refusal-small _ _ _ _ (c .before .before .before .read-term .ensures) (c .term-refusal .ensures))
 
 returns-3 : tie.Need-returns-3
 returns-3 c =
@@ -118,10 +118,10 @@ returns-3 c =
     let l = ledger-of k in
     let told = c .before .enum-told3 .given .1 in
     label-refused (ledgerIn s) (labelIn s) (bufferIn s) (fits s) (l .ledger) (names k) (l .is) (l .names) _
-    (asking.term-refused _ _ _ _ (c .before .before .before .read-term .ensures) (c .term-refusal .ensures) _ told)
+    (term-refused _ _ _ _ (c .before .before .before .read-term .ensures) (c .term-refusal .ensures) _ told)
 
-counting-requires : tie.Need-counting-requires
-counting-requires c κs = search needs
+counted-requires : tie.Need-counted-requires
+counted-requires c κs = search needs
 
 mark-sound-requires : tie.Need-mark-sound-requires
 mark-sound-requires c κs = (refl, refl)
@@ -176,7 +176,7 @@ extract-spec =
     term-refusal-requires
     add-refusal
     returns-3
-    counting-requires
+    counted-requires
     mark-sound-requires
     copy-half-requires
     copy-half-requires-2

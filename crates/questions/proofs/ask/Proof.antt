@@ -1,9 +1,9 @@
 -- `questions::ask` meets its contract: the refusals in their order, and the answer where nothing is refused. Assumes nothing.
 use native.Mathlib.Omega.{arith}
 use mathlib.Core.Path.{sym, _∙_}
-use Rattle.terms.proofs.Accepted.{AcceptedTerm, accepted-term}
-use Rattle.ledgers.proofs.Accepted.{AcceptedLedger, accepted-ledger}
-use Rattle.questions.proofs.Asking.{ledger-of, judged-asked, verdict-answers, ledger-refused, term-refused, refusal-small, ask-ledger, ask-p, ask-q, ask-label, ask-answer}
+use Rattle.terms.proofs.Accepted.{AcceptedTerm, accepted-term, term-refused, refusal-small}
+use Rattle.ledgers.proofs.Accepted.{AcceptedLedger, accepted-ledger, ledger-refused, ledger-of}
+use Rattle.questions.proofs.Asking.{judged-asked, verdict-answers, ask-ledger, ask-p, ask-q, ask-label, ask-answer}
 use borrow.Author.Needs.{needs}
 use Rattle.questions.proofs.ask.Statement.{statement}
 use Rattle.questions.proofs.ask.Tie as tie

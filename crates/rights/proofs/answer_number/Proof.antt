@@ -1,9 +1,9 @@
--- `decisions::answer_number` meets its contract. Assumes nothing.
+-- `rights::answer_number` meets its contract. Assumes nothing.
 use native.Mathlib.Omega.{arith}
 use Rattle.model.specs.Answers.{number}
 use borrow.Author.Needs.{needs}
-use Rattle.decisions.proofs.answer_number.Statement.{statement}
-use Rattle.decisions.proofs.answer_number.Tie as tie
+use Rattle.rights.proofs.answer_number.Statement.{statement}
+use Rattle.rights.proofs.answer_number.Tie as tie
 
 enum-told : tie.Need-enum-told
 enum-told c = search needs

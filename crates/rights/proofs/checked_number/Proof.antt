@@ -1,8 +1,8 @@
--- `derivations::checked_number` meets its contract, case by case. Assumes nothing.
+-- `rights::checked_number` meets its contract, case by case. Assumes nothing.
 use Rattle.model.specs.Answers.{number}
 use borrow.Author.Needs.{needs}
-use Rattle.derivations.proofs.checked_number.Statement.{statement}
-use Rattle.derivations.proofs.checked_number.Tie as tie
+use Rattle.rights.proofs.checked_number.Statement.{statement}
+use Rattle.rights.proofs.checked_number.Tie as tie
 
 enum-told : tie.Need-enum-told
 enum-told c = search needs

@@ -24,7 +24,7 @@ use Rattle.model.proofs.Accepted.{names-range}
 use Rattle.model.proofs.Listed.{written-few}
 use Rattle.demands.specs.Numbers.{Range, _to_, OneOf, questionRefusals, extractRefusals, shortFormRefusals, derivationRefusals, stepRefusals, AnswersQuestion, AnswersExtract, AnswersShortForm, AnswersDerivation, QuestionsAnswered, ExtractsAnswered, ShortFormsAnswered, DerivationsAnswered, ComesBack, AnswersComeBack}
 use Rattle.demands.proofs.Asking.{judged}
-use Rattle.demands.proofs.Refusing.{Only, only-require, only-then, only-from, only-term, only-ledger, given-case}
+use Rattle.demands.proofs.Refusing.{Only, only-require, only-then, only-term, only-part, only-ledger, given-case}
 
 -- ---- an answer whose parts are small comes back out of its number
 abbrev Small : Answer → Type 0
@@ -49,24 +49,23 @@ EndBelow [] = Unit {0}
 EndBelow (a to b ∷ l) = (b < 256) × EndBelow l
 
 one-below : (l : List Range) (r : ℕ) → EndBelow l → OneOf l r → r < 256
+one-below [] r e h = absurd h
 one-below (a to b ∷ l) r e (inl h) = omega arith
 one-below (a to b ∷ l) r e (inr h) = one-below l r (e .1) h
-one-below [] r e h = absurd h
 
 -- ---- questions
-module _ (F G : Term → Term → Marks) (ledger p q label : List ℕ) where
-  question-answered : AnswersQuestion ledger (ask (judged F G) ledger p q label)
-  unfolding ask
-  question-answered =
-      given-case (AnswersQuestion ledger) (readLedger ledger) _ (only-ledger (OneOf questionRefusals) ledger (λ r a b. inl (a, b)))
-      (λ l e. given-case (AnswersQuestion ledger) (from 20 (readTerm (l .names) p)) _ (term 20 (l .names) p (λ r a b. inr (inl (omega arith, omega arith))))
-      (λ tp _. given-case (AnswersQuestion ledger) (from 30 (readTerm (l .names) q)) _ (term 30 (l .names) q (λ r a b. inr (inr (inl (omega arith, omega arith)))))
-      (λ tq _. given-case (AnswersQuestion ledger) (from 40 (readTerm (l .names) label)) _ (term 40 (l .names) label (λ r a b. inr (inr (inr (inl (omega arith, omega arith))))))
-      (λ L _. judge-case (AnswersQuestion ledger) (l .names) (soundUnder l L) (F tp tq) (G tp tq) (λ _. tt)
-      (λ s c k. record { job = l; is = e; below = judge-no (l .names) (soundUnder l L) (F tp tq) (G tp tq) s c .0 k .below })))))
-    where
-      term : (base n : ℕ) (cs : List ℕ) → ((r : ℕ) → 1 ≤ r → r ≤ 4 → OneOf questionRefusals (base + r)) → Only (OneOf questionRefusals) (from base (readTerm n cs))
-      term base n cs h = only-from (OneOf questionRefusals) base (readTerm n cs) (only-term (λ r. OneOf questionRefusals (base + r)) n cs h)
+question-answered : (F G : Term → Term → Marks) (ledger p q label : List ℕ) → AnswersQuestion ledger (ask (judged F G) ledger p q label)
+unfolding ask
+question-answered F G ledger p q label =
+    given-case (AnswersQuestion ledger) (readLedger ledger) _ (only-ledger R ledger (λ r a b. inl (a, b)))
+    (λ l e. given-case (AnswersQuestion ledger) (from 20 (readTerm (l .names) p)) _ (only-part R 20 (l .names) p (λ r a b. inr (inl (omega arith, omega arith))))
+    (λ tp _. given-case (AnswersQuestion ledger) (from 30 (readTerm (l .names) q)) _ (only-part R 30 (l .names) q (λ r a b. inr (inr (inl (omega arith, omega arith)))))
+    (λ tq _. given-case (AnswersQuestion ledger) (from 40 (readTerm (l .names) label)) _ (only-part R 40 (l .names) label (λ r a b. inr (inr (inr (inl (omega arith, omega arith))))))
+    (λ L _. judge-case (AnswersQuestion ledger) (l .names) (soundUnder l L) (F tp tq) (G tp tq) (λ _. tt)
+    (λ s c k. record { job = l; is = e; below = judge-no (l .names) (soundUnder l L) (F tp tq) (G tp tq) s c .0 k .below })))))
+  where
+    R : ℕ → Type 0
+    R = OneOf questionRefusals
 
 pub questions-answered : QuestionsAnswered
 unfolding actsFor actsForUnder flowsTo flowsToUnder
@@ -77,9 +76,7 @@ questions-answered = record {
 
 question-small : (ledger : List ℕ) (answer : Answer) → AnswersQuestion ledger answer → Small answer
 question-small ledger Yes h = tt
-question-small ledger (No s c) h =
-    let n = names-range ledger (h .job) (h .is) .1 in
-    omega (arith, h .below, pow-mono n)
+question-small ledger (No s c) h = omega (arith, h .below, pow-mono (names-range ledger (h .job) (h .is) .1))
 question-small ledger (Written k) h = absurd h
 question-small ledger (Refused r) h = one-below questionRefusals r (omega arith) h
 question-small ledger (RefusedAt k r) h = absurd h
@@ -96,8 +93,7 @@ extracts-answered ledger label buffer =
     (only-require (OneOf extractRefusals) (eqb (length buffer) 1024) 51 _ (inl (omega arith, omega arith))
     (only-then (OneOf extractRefusals) (readLedger ledger) _ (only-ledger (OneOf extractRefusals) ledger (λ r a b. inr (inl (a, b))))
     (λ l. only-then (OneOf extractRefusals) (from 40 (readTerm (l .names) label)) _
-    (only-from (OneOf extractRefusals) 40 (readTerm (l .names) label)
-    (only-term (λ r. OneOf extractRefusals (40 + r)) (l .names) label (λ r a b. inr (inr (inl (omega arith, omega arith))))))
+    (only-part (OneOf extractRefusals) 40 (l .names) label (λ r a b. inr (inr (inl (omega arith, omega arith)))))
     (λ L. tt))))
 
 extract-small : (answer : Answer) → AnswersExtract answer → Small answer
@@ -159,8 +155,7 @@ unfolding checkDerivation
 derivations-answered d ledger label =
     given-case (AnswersDerivation d) (readLedger ledger) _ (only-ledger (OneOf derivationRefusals) ledger (λ r a b. inl (a, b)))
     (λ l _. given-case (AnswersDerivation d) (from 40 (readTerm (l .names) label)) _
-    (only-from (OneOf derivationRefusals) 40 (readTerm (l .names) label)
-    (only-term (λ r. OneOf derivationRefusals (40 + r)) (l .names) label (λ r a b. inr (inl (omega arith, omega arith)))))
+    (only-part (OneOf derivationRefusals) 40 (l .names) label (λ r a b. inr (inl (omega arith, omega arith))))
     (λ L _. cond-case (AnswersDerivation d) (derivationLength (length d)) (checkSteps l L d 0 (stepCount d)) (Refused 60)
     (λ e. steps-answered l L d 0 (stepCount d) (few e) (omega arith))
     (λ _. inr (inr (inl (omega arith, omega arith))))))

@@ -7,7 +7,7 @@ use native.Mathlib.Omega.{arith}
 use lib.ListN.{length}
 use Rattle.model.specs.Bytes.{byte, Reading, accepted, refused, andThen, from, require}
 use Rattle.model.specs.Answers.{Answer, Refused, given}
-use Rattle.model.specs.Terms.{readTerm}
+use Rattle.model.specs.Terms.{Term, readTerm}
 use Rattle.model.specs.Ledgers.{header, grantBlocks, checked, allChecked, headerForm, grantForm, refusedAs, readTerms, readGrant, readGrants, ledgerLength, readLedger}
 use Rattle.model.proofs.Refusals.{refused-number}
 
@@ -25,7 +25,7 @@ module _ (R : ℕ → Type 0) where
   only-then (accepted a) next o h = h a
   only-then (refused r) next o h = o
 
-  pub only-from : {A : Type 0} (base : ℕ) (x : Reading A) → Only (λ r. R (base + r)) x → Only R (from base x)
+  only-from : {A : Type 0} (base : ℕ) (x : Reading A) → Only (λ r. R (base + r)) x → Only R (from base x)
   only-from base (accepted a) o = tt
   only-from base (refused r) o = o
 
@@ -37,7 +37,7 @@ module _ (R : ℕ → Type 0) where
   pub only-term : (n : ℕ) (cs : List ℕ) → ((r : ℕ) → 1 ≤ r → r ≤ 4 → R r) → Only R (readTerm n cs)
   only-term n cs h = go (readTerm n cs) refl
     where
-      go : (x : Reading _) → readTerm n cs ≡ x → Only R x
+      go : (x : Reading Term) → readTerm n cs ≡ x → Only R x
       go (accepted t) e = tt
       go (refused r) e = let w = refused-number n cs r e in h r (w .0) (w .1)
 
@@ -57,6 +57,10 @@ module _ (R : ℕ → Type 0) where
       (only-require (headerForm (length (grantBlocks bytes)) (header bytes)) 12 _ (h 12 (omega arith) (omega arith))
       (only-then (readGrants (byte 1 bytes) (grantBlocks bytes)) _ (only-grants (byte 1 bytes) (grantBlocks bytes) (h 13 (omega arith) (omega arith)) (h 14 (omega arith) (omega arith)))
       (λ gs. tt))))
+
+-- a term whose refusals are counted from a base
+pub only-part : (R : ℕ → Type 0) (base n : ℕ) (cs : List ℕ) → ((r : ℕ) → 1 ≤ r → r ≤ 4 → R (base + r)) → Only R (from base (readTerm n cs))
+only-part R base n cs h = only-from R base (readTerm n cs) (only-term (λ r. R (base + r)) n cs h)
 
 -- what follows from a reading, where its refusal is the answer
 pub given-case : {A : Type 0} (P : Answer → Type 0) (x : Reading A) (next : A → Answer) → Only (λ r. P (Refused r)) x → ((a : A) → x ≡ accepted a → P (next a)) → P (given x next)

@@ -1,6 +1,8 @@
 -- The theorems' proofs; a function's own proof only cites them.
 pub mod Lent
 pub mod Asking
+pub mod Refusing
+pub mod Figures
 pub mod Coalitions
 pub mod Soundness
 pub mod Principals
@@ -8,6 +10,7 @@ pub mod Completeness
 pub mod Sides
 pub mod Exact
 pub mod SevenRules
+pub mod Codes
 pub mod Telling
 pub mod Comparing
 pub mod Deriving

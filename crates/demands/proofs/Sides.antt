@@ -6,7 +6,7 @@ use Prim.Native.Nat.{ℕ}
 use Rattle.model.specs.Answers.{Side, confidentiality, integrity}
 use Rattle.model.specs.Terms.{Term, name, top, bottom, conj, disj, project, NamesBelow, held}
 use Rattle.model.specs.Grants.{Grant, voice}
-use Rattle.demands.specs.Algebra.{ActsFor, botR, topL, self, proj, projR, conjL₁, conjL₂, conjR, disjL, disjR₁, disjR₂, then, distr, conj-project, disj-project, basis, crossed, grant, Same, sideOf, normal, voiceOf, Unprojected, HasNormalForm, VoiceOfNormalForms}
+use Rattle.demands.specs.Algebra.{ActsFor, botR, topL, self, proj, projR, conjL₁, conjL₂, conjR, disjL, disjR₁, disjR₂, then, distr, conj-project, disj-project, basis, crossed, grant, Same, sideOf, normal, voiceOf, Unprojected, HasNormalForm, VoiceOfNormalForms, VoiceIsHeld}
 use Rattle.demands.proofs.Principals.{projection-laws}
 
 -- equality in the algebra, and its use inside a term
@@ -95,7 +95,7 @@ side-names n integrity (project confidentiality p) l = tt
 side-names n integrity (project integrity p) l = side-names n integrity p l
 
 -- the voice is held where document 01 says
-pub voice-held : (s : Side) (q : Term) (c : ℕ) → held (voiceOf q) s c ≡ voice q s c
+pub voice-held : VoiceIsHeld
 unfolding voiceOf voice held
 voice-held confidentiality q c = refl
 voice-held integrity q c = ap₂ _&&_ (side-held confidentiality integrity q c) (side-held integrity integrity q c)

@@ -7,7 +7,7 @@ use mathlib.Core.Bool.{true}
 use mathlib.Core.List.{List, [], List·Memᴰ}
 use Rattle.model.specs.Answers.{Side, confidentiality, integrity, Yes}
 use Rattle.model.specs.Terms.{Term, name, top, bottom, conj, disj, project, NamesBelow, held}
-use Rattle.model.specs.Grants.{Grant, actsStatically, visible, spoken, counting, sound}
+use Rattle.model.specs.Grants.{Grant, actsStatically, visible, voice, spoken, counting, sound}
 use Rattle.model.specs.Ledgers.{Ledger}
 use Rattle.model.specs.Questions.{actsFor, flowsTo}
 use Rattle.demands.specs.Answers.{Asked}
@@ -42,7 +42,8 @@ pub data ActsFor (G : List Grant) : Term → Term → Type 0 where
   disjR₂ : {p p₁ p₂ : Term} → ActsFor G p p₂ → ActsFor G p (disj p₁ p₂)
   -- TRANS
   then : {p q r : Term} → ActsFor G p q → ActsFor G q r → ActsFor G p r
-  -- the lattice is distributive ("as in Boolean algebra", section 3.2); the other half follows
+  -- The lattice is distributive. Appendix A.2 has the dual law, its rewriting rule norm∨(J₁ ∧ J₂, J) = norm∨(J₁, J) ∧ norm∨(J₂, J), and in a
+  -- lattice each of the two gives the other; section 5.2.1 rewrites by this one. The other half follows.
   distr : {p q r : Term} → ActsFor G (conj p (disj q r)) (disj (conj p q) (conj p r))
   -- Definition 1, property 3: the half that Figure 4.1 does not give
   conj-project : (s : Side) (p q : Term) → ActsFor G (conj (project s p) (project s q)) (project s (conj p q))
@@ -141,6 +142,10 @@ pub record VoiceOfNormalForms : Type 0 where
   pub definition : (G : List Grant) (p q : Term) → Unprojected p → Unprojected q
       → Same G (voiceOf (conj (project confidentiality p) (project integrity q))) (conj (project integrity p) (project integrity q))
   pub monotone : (p q : Term) → ActsFor [] p q → ActsFor [] (voiceOf p) (voiceOf q)
+
+-- It is held where document 01's voice is, on each side, at every coalition.
+abbrev pub VoiceIsHeld : Type 0
+VoiceIsHeld = (s : Side) (q : Term) (c : ℕ) → held (voiceOf q) s c ≡ voice q s c
 
 -- Definitions 1 and 2 in full, under any grants: the five properties of an authority projection, and the three of the basis.
 pub record ProjectionLaws (G : List Grant) : Type 0 where

@@ -1,5 +1,5 @@
 // FLAM's principal algebra and document 01's coalitions: what the one derives is what the other decides.
-ghost use Rattle.demands.specs.Algebra.{ActsForByCoalitions, FlowsToByCoalitions, StaticIsActsFor, VisibleIsFlowsTo, SpokenIsActsForVoice, NormalForms, VoiceOfNormalForms, DefinitionsOneAndTwo, YesIsActsFor, YesIsFlowsTo};
+ghost use Rattle.demands.specs.Algebra.{ActsForByCoalitions, FlowsToByCoalitions, StaticIsActsFor, VisibleIsFlowsTo, SpokenIsActsForVoice, NormalForms, VoiceOfNormalForms, VoiceIsHeld, DefinitionsOneAndTwo, YesIsActsFor, YesIsFlowsTo};
 
 // Sound and complete: p acts for q in the algebra exactly if on each side every sound coalition that holds p holds q.
 pub fn acts_for_is_decided_by_coalitions()
@@ -34,6 +34,11 @@ pub fn every_term_has_a_normal_form()
 // The voice is Definition 7's, and equal principals have equal voices.
 pub fn voice_is_definition_7()
     ensures { λ _. ⌜ VoiceOfNormalForms ⌝ }
+{}
+
+// Document 01's voice is held exactly where Definition 7's is.
+pub fn voice_is_held_where_definition_7s_is()
+    ensures { λ _. ⌜ VoiceIsHeld ⌝ }
 {}
 
 // All properties of an authority projection and of the confidentiality and integrity basis.

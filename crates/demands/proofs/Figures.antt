@@ -1,0 +1,180 @@
+-- The answers that each call can give, and their numbers. Assumes nothing.
+use mathlib.Core.Path.{_≡_, refl}
+use mathlib.Core.Logic.{inl, inr}
+use Prim.Native.Nat.{ℕ, zero, suc, _+_, _%_, _≤_, _<_}
+use mathlib.Core.Bool.{true, not, _&&_, _||_}
+use mathlib.Core.List.{List, [], _∷_}
+use native.Mathlib.Omega.{arith}
+use lib.Dec.{eqb, leb, ltb}
+use lib.ListN.{length}
+use lib.Pow.{pow-mono}
+use borrow.Author.Tests.{leb-true}
+use Rattle.model.specs.Bytes.{byte, Reading, accepted, refused, from}
+use Rattle.model.specs.Answers.{confidentiality, integrity, Answer, Yes, No, Written, Refused, RefusedAt, number}
+use Rattle.model.specs.Terms.{Term, readTerm, held}
+use Rattle.model.specs.Grants.{Marks, counts}
+use Rattle.model.specs.Ledgers.{Ledger, readLedger}
+use Rattle.model.specs.Questions.{across, soundUnder, actsForUnder, flowsToUnder, ask, actsFor, flowsTo}
+use Rattle.model.specs.Extracts.{extractOf, written, extract}
+use Rattle.model.specs.ShortForms.{shortFormOf, writtenFront, shorten}
+use Rattle.model.specs.Derivations.{stepAt, Rule, ruleOf, usesOf, stepForm, readLeft, readRight, isAccepted, before, ofGrant, meets, checkStep, onStep, checkSteps, derivationLength, stepCount, checkDerivation}
+use Rattle.model.proofs.Truth.{and-right, cond-case}
+use Rattle.model.proofs.Judge.{judge-no, judge-case}
+use Rattle.model.proofs.Accepted.{names-range}
+use Rattle.model.proofs.Listed.{written-few}
+use Rattle.demands.specs.Numbers.{Range, _to_, OneOf, questionRefusals, extractRefusals, shortFormRefusals, derivationRefusals, stepRefusals, AnswersQuestion, AnswersExtract, AnswersShortForm, AnswersDerivation, QuestionsAnswered, ExtractsAnswered, ShortFormsAnswered, DerivationsAnswered, ComesBack, AnswersComeBack}
+use Rattle.demands.proofs.Asking.{judged}
+use Rattle.demands.proofs.Refusing.{Only, only-require, only-then, only-term, only-part, only-ledger, given-case}
+
+-- ---- an answer whose parts are small comes back out of its number
+abbrev Small : Answer → Type 0
+Small Yes = Unit {0}
+Small (No s c) = c < 4096
+Small (Written k) = k < 65536
+Small (Refused r) = r < 256
+Small (RefusedAt k r) = (k < 256) × (r < 256)
+
+comes-back : (answer : Answer) → Small answer → ComesBack answer
+unfolding number
+comes-back Yes h = (refl, refl)
+comes-back (No confidentiality c) h = (omega arith, omega arith, omega arith)
+comes-back (No integrity c) h = (omega arith, omega arith, omega arith)
+comes-back (Written k) h = (omega arith, omega arith)
+comes-back (Refused r) h = (omega arith, omega arith, omega arith)
+comes-back (RefusedAt k r) h = (omega arith, omega arith, omega arith)
+
+-- refusals of ranges that end below 256 are small
+abbrev EndBelow : List Range → Type 0
+EndBelow [] = Unit {0}
+EndBelow (a to b ∷ l) = (b < 256) × EndBelow l
+
+one-below : (l : List Range) (r : ℕ) → EndBelow l → OneOf l r → r < 256
+one-below [] r e h = absurd h
+one-below (a to b ∷ l) r e (inl h) = omega arith
+one-below (a to b ∷ l) r e (inr h) = one-below l r (e .1) h
+
+-- ---- questions
+question-answered : (F G : Term → Term → Marks) (ledger p q label : List ℕ) → AnswersQuestion ledger (ask (judged F G) ledger p q label)
+unfolding ask
+question-answered F G ledger p q label =
+    given-case (AnswersQuestion ledger) (readLedger ledger) _ (only-ledger R ledger (λ r a b. inl (a, b)))
+    (λ l e. given-case (AnswersQuestion ledger) (from 20 (readTerm (l .names) p)) _ (only-part R 20 (l .names) p (λ r a b. inr (inl (omega arith, omega arith))))
+    (λ tp _. given-case (AnswersQuestion ledger) (from 30 (readTerm (l .names) q)) _ (only-part R 30 (l .names) q (λ r a b. inr (inr (inl (omega arith, omega arith)))))
+    (λ tq _. given-case (AnswersQuestion ledger) (from 40 (readTerm (l .names) label)) _ (only-part R 40 (l .names) label (λ r a b. inr (inr (inr (inl (omega arith, omega arith))))))
+    (λ L _. judge-case (AnswersQuestion ledger) (l .names) (soundUnder l L) (F tp tq) (G tp tq) (λ _. tt)
+    (λ s c k. record { job = l; is = e; below = judge-no (l .names) (soundUnder l L) (F tp tq) (G tp tq) s c .0 k .below })))))
+  where
+    R : ℕ → Type 0
+    R = OneOf questionRefusals
+
+pub questions-answered : QuestionsAnswered
+unfolding actsFor actsForUnder flowsTo flowsToUnder
+questions-answered = record {
+  acts-for = question-answered (λ p q. held p) (λ p q. held q);
+  flows-to = question-answered (λ p q. across q p) (λ p q. across p q);
+}
+
+question-small : (ledger : List ℕ) (answer : Answer) → AnswersQuestion ledger answer → Small answer
+question-small ledger Yes h = tt
+question-small ledger (No s c) h = omega (arith, h .below, pow-mono (names-range ledger (h .job) (h .is) .1))
+question-small ledger (Written k) h = absurd h
+question-small ledger (Refused r) h = one-below questionRefusals r (omega arith) h
+question-small ledger (RefusedAt k r) h = absurd h
+
+-- ---- extracts
+written-answered : (x : Reading (List ℕ)) (buffer : List ℕ) → Only (OneOf extractRefusals) x → AnswersExtract (written x buffer .answer)
+written-answered (accepted bytes) buffer o = tt
+written-answered (refused r) buffer o = o
+
+pub extracts-answered : ExtractsAnswered
+unfolding extract extractOf
+extracts-answered ledger label buffer =
+    written-answered (extractOf ledger label (length buffer)) buffer
+    (only-require (OneOf extractRefusals) (eqb (length buffer) 1024) 51 _ (inl (omega arith, omega arith))
+    (only-then (OneOf extractRefusals) (readLedger ledger) _ (only-ledger (OneOf extractRefusals) ledger (λ r a b. inr (inl (a, b))))
+    (λ l. only-then (OneOf extractRefusals) (from 40 (readTerm (l .names) label)) _
+    (only-part (OneOf extractRefusals) 40 (l .names) label (λ r a b. inr (inr (inl (omega arith, omega arith)))))
+    (λ L. tt))))
+
+extract-small : (answer : Answer) → AnswersExtract answer → Small answer
+extract-small Yes h = tt
+extract-small (No s c) h = absurd h
+extract-small (Written k) h = absurd h
+extract-small (Refused r) h = one-below extractRefusals r (omega arith) h
+extract-small (RefusedAt k r) h = absurd h
+
+-- ---- short forms
+front-answered : (x : Reading (List ℕ)) (buffer : List ℕ) → Only (OneOf shortFormRefusals) x
+    → ((k : ℕ) → writtenFront x buffer .answer ≡ Written k → k ≤ 16388) → AnswersShortForm (writtenFront x buffer .answer)
+front-answered (accepted bytes) buffer o h = h (length bytes) refl
+front-answered (refused r) buffer o h = o
+
+pub short-forms-answered : ShortFormsAnswered
+unfolding shorten shortFormOf
+short-forms-answered n term buffer =
+    front-answered (shortFormOf n term (length buffer)) buffer
+    (only-require (OneOf shortFormRefusals) (leb 1 n && leb n 12) 7 _ (inl (omega arith, omega arith))
+    (only-require (OneOf shortFormRefusals) (leb 16388 (length buffer)) 8 _ (inl (omega arith, omega arith))
+    (only-then (OneOf shortFormRefusals) (readTerm n term) _ (only-term (OneOf shortFormRefusals) n term (λ r a b. inr (inl (a, b)))) (λ t. tt))))
+    (written-few n term buffer)
+
+short-form-small : (answer : Answer) → AnswersShortForm answer → Small answer
+short-form-small Yes h = absurd h
+short-form-small (No s c) h = absurd h
+short-form-small (Written k) h = omega arith
+short-form-small (Refused r) h = one-below shortFormRefusals r (omega arith) h
+short-form-small (RefusedAt k r) h = absurd h
+
+-- ---- derivations
+step-only : (l : Ledger) (L : Term) (d : List ℕ) (k : ℕ) (step : List ℕ) (r : Rule) → Only (OneOf stepRefusals) (checkStep l L d k step r)
+unfolding checkStep
+step-only l L d k step r =
+    only-require (OneOf stepRefusals) (stepForm r step) 61 _ (inl (omega arith, omega arith))
+    (only-require (OneOf stepRefusals) (isAccepted (readLeft (l .names) step)) 62 _ (inl (omega arith, omega arith))
+    (only-require (OneOf stepRefusals) (isAccepted (readRight (l .names) step)) 63 _ (inl (omega arith, omega arith))
+    (only-require (OneOf stepRefusals) (before (usesOf r .first) (byte 1 step) k && before (usesOf r .second) (byte 2 step) k) 64 _ (inl (omega arith, omega arith))
+    (only-require (OneOf stepRefusals) (not (usesOf r .grant) || ltb (byte 3 step) (length (l .grants))) 65 _ (inl (omega arith, omega arith))
+    (only-require (OneOf stepRefusals) (not (usesOf r .grant) || ofGrant (counts (l .names) L) (l .grants) (byte 3 step)) 66 _ (inl (omega arith, omega arith))
+    (only-require (OneOf stepRefusals) (meets l r step (stepAt d (byte 1 step)) (stepAt d (byte 2 step))) 67 (accepted tt) (inl (omega arith, omega arith)) tt))))))
+
+on-step-answered : (d : List ℕ) (k : ℕ) (x : Reading (Unit {0})) (next : Answer) → stepCount d ≤ 64 → k < stepCount d
+    → Only (OneOf stepRefusals) x → AnswersDerivation d next → AnswersDerivation d (onStep k x next)
+on-step-answered d k (accepted u) next few h o t = t
+on-step-answered d k (refused r) next few h o t = (few, h, o)
+
+steps-answered : (l : Ledger) (L : Term) (d : List ℕ) (k count : ℕ) → stepCount d ≤ 64 → k + count ≤ stepCount d → AnswersDerivation d (checkSteps l L d k count)
+unfolding checkSteps
+steps-answered l L d k zero few h = tt
+steps-answered l L d k (suc count) few h =
+    on-step-answered d k (checkStep l L d k (stepAt d k) (ruleOf (byte 0 (stepAt d k)))) (checkSteps l L d (suc k) count) few (omega arith)
+    (step-only l L d k (stepAt d k) (ruleOf (byte 0 (stepAt d k))))
+    (steps-answered l L d (suc k) count few (omega arith))
+
+pub derivations-answered : DerivationsAnswered
+unfolding checkDerivation
+derivations-answered d ledger label =
+    given-case (AnswersDerivation d) (readLedger ledger) _ (only-ledger (OneOf derivationRefusals) ledger (λ r a b. inl (a, b)))
+    (λ l _. given-case (AnswersDerivation d) (from 40 (readTerm (l .names) label)) _
+    (only-part (OneOf derivationRefusals) 40 (l .names) label (λ r a b. inr (inl (omega arith, omega arith))))
+    (λ L _. cond-case (AnswersDerivation d) (derivationLength (length d)) (checkSteps l L d 0 (stepCount d)) (Refused 60)
+    (λ e. steps-answered l L d 0 (stepCount d) (few e) (omega arith))
+    (λ _. inr (inr (inl (omega arith, omega arith))))))
+  where
+    few : derivationLength (length d) ≡ true → stepCount d ≤ 64
+    few e = omega (arith, leb-true (length d) 8704 (and-right (leb 136 (length d)) _ (and-right (eqb (length d % 136) 0) _ e)))
+
+derivation-small : (d : List ℕ) (answer : Answer) → AnswersDerivation d answer → Small answer
+derivation-small d Yes h = tt
+derivation-small d (No s c) h = absurd h
+derivation-small d (Written k) h = absurd h
+derivation-small d (Refused r) h = one-below derivationRefusals r (omega arith) h
+derivation-small d (RefusedAt k r) h = (omega arith, one-below stepRefusals r (omega arith) (h .2))
+
+pub answers-come-back : AnswersComeBack
+answers-come-back = record {
+  acts-for = λ ledger p q label. let a = actsFor ledger p q label in comes-back a (question-small ledger a (questions-answered .acts-for ledger p q label));
+  flows-to = λ ledger p q label. let a = flowsTo ledger p q label in comes-back a (question-small ledger a (questions-answered .flows-to ledger p q label));
+  extracts = λ ledger label buffer. let a = extract ledger label buffer .answer in comes-back a (extract-small a (extracts-answered ledger label buffer));
+  short-forms = λ n term buffer. let a = shorten n term buffer .answer in comes-back a (short-form-small a (short-forms-answered n term buffer));
+  derivations = λ d ledger label. let a = checkDerivation d ledger label in comes-back a (derivation-small d a (derivations-answered d ledger label));
+}

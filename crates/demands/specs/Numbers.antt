@@ -1,0 +1,130 @@
+-- Which answers each call can give, and that the one number that an answer is to C gives it back (document 01, "Derivations", last paragraph, and
+-- "Refusals by operation"). Assumes nothing: these are the statements.
+use mathlib.Core.Path.{_≡_}
+use mathlib.Core.Logic.{_⊎_}
+use Prim.Native.Nat.{ℕ, _/_, _%_, _^_, _≤_, _<_}
+use mathlib.Core.List.{List, [], _∷_}
+use Rattle.model.specs.Bytes.{accepted}
+use Rattle.model.specs.Answers.{Answer, Yes, No, Written, Refused, RefusedAt, sideNumber, number}
+use Rattle.model.specs.Ledgers.{Ledger, readLedger}
+use Rattle.model.specs.Questions.{actsFor, flowsTo}
+use Rattle.model.specs.Extracts.{extract}
+use Rattle.model.specs.ShortForms.{shorten}
+use Rattle.model.specs.Derivations.{stepCount, checkDerivation}
+
+-- What a C program takes out of a number: the arithmetic of include/rights.h.
+abbrev pub kindIn : ℕ → ℕ
+kindIn x = x / 65536
+
+abbrev pub sideIn : ℕ → ℕ
+sideIn x = x / 4096 % 2
+
+abbrev pub coalitionIn : ℕ → ℕ
+coalitionIn x = x % 4096
+
+abbrev pub refusalIn : ℕ → ℕ
+refusalIn x = x % 256
+
+abbrev pub stepIn : ℕ → ℕ
+stepIn x = x / 256 % 256
+
+abbrev pub lengthIn : ℕ → ℕ
+lengthIn x = x % 65536
+
+-- what is in the number x of each answer
+abbrev pub IsIn : ℕ → Answer → Type 0
+IsIn x Yes = (kindIn x ≡ 0) × (lengthIn x ≡ 0)
+IsIn x (Written k) = (kindIn x ≡ 0) × (lengthIn x ≡ k)
+IsIn x (No s c) = (kindIn x ≡ 1) × (sideIn x ≡ sideNumber s) × (coalitionIn x ≡ c)
+IsIn x (Refused r) = (kindIn x ≡ 2) × (stepIn x ≡ 0) × (refusalIn x ≡ r)
+IsIn x (RefusedAt k r) = (kindIn x ≡ 2) × (stepIn x ≡ k) × (refusalIn x ≡ r)
+
+-- the numbers from the first to the last
+infix 80 _to_
+pub data Range : Type 0 where
+  _to_ : ℕ → ℕ → Range
+
+-- r is in one of the ranges
+abbrev pub OneOf : List Range → ℕ → Type 0
+OneOf [] r = ⊥
+OneOf (a to b ∷ l) r = ((a ≤ r) × (r ≤ b)) ⊎ OneOf l r
+
+-- the refusals of each call
+abbrev pub questionRefusals : List Range
+questionRefusals = 10 to 14 ∷ 21 to 24 ∷ 31 to 34 ∷ 41 to 44 ∷ []
+
+abbrev pub extractRefusals : List Range
+extractRefusals = 51 to 51 ∷ 10 to 14 ∷ 41 to 44 ∷ []
+
+abbrev pub shortFormRefusals : List Range
+shortFormRefusals = 7 to 8 ∷ 1 to 4 ∷ []
+
+abbrev pub derivationRefusals : List Range
+derivationRefusals = 10 to 14 ∷ 41 to 44 ∷ 60 to 60 ∷ []
+
+abbrev pub stepRefusals : List Range
+stepRefusals = 61 to 67 ∷ []
+
+-- the ledger is accepted, and c is a coalition of its names
+pub record OfTheJob (ledger : List ℕ) (c : ℕ) : Type 0 where
+  pub job : Ledger
+  pub is : readLedger ledger ≡ accepted job
+  pub below : c < 2 ^ job .names
+
+-- Acts-for and flows-to: yes, no by a coalition of the job, or refused.
+abbrev pub AnswersQuestion : List ℕ → Answer → Type 0
+AnswersQuestion ledger Yes = Unit {0}
+AnswersQuestion ledger (No s c) = OfTheJob ledger c
+AnswersQuestion ledger (Written k) = ⊥
+AnswersQuestion ledger (Refused r) = OneOf questionRefusals r
+AnswersQuestion ledger (RefusedAt k r) = ⊥
+
+-- Extract: written, or refused.
+abbrev pub AnswersExtract : Answer → Type 0
+AnswersExtract Yes = Unit {0}
+AnswersExtract (No s c) = ⊥
+AnswersExtract (Written k) = ⊥
+AnswersExtract (Refused r) = OneOf extractRefusals r
+AnswersExtract (RefusedAt k r) = ⊥
+
+-- Short form: written, of at most 16,388 bytes, or refused.
+abbrev pub AnswersShortForm : Answer → Type 0
+AnswersShortForm Yes = ⊥
+AnswersShortForm (No s c) = ⊥
+AnswersShortForm (Written k) = k ≤ 16388
+AnswersShortForm (Refused r) = OneOf shortFormRefusals r
+AnswersShortForm (RefusedAt k r) = ⊥
+
+-- Derivation check: accepted, refused, or refused at one of the steps, which are at most 64.
+abbrev pub AnswersDerivation : List ℕ → Answer → Type 0
+AnswersDerivation d Yes = Unit {0}
+AnswersDerivation d (No s c) = ⊥
+AnswersDerivation d (Written k) = ⊥
+AnswersDerivation d (Refused r) = OneOf derivationRefusals r
+AnswersDerivation d (RefusedAt k r) = (stepCount d ≤ 64) × (k < stepCount d) × OneOf stepRefusals r
+
+-- The claims. Each is the promise of a function of module `numbers`.
+
+pub record QuestionsAnswered : Type 0 where
+  pub acts-for : (ledger p q label : List ℕ) → AnswersQuestion ledger (actsFor ledger p q label)
+  pub flows-to : (ledger p q label : List ℕ) → AnswersQuestion ledger (flowsTo ledger p q label)
+
+abbrev pub ExtractsAnswered : Type 0
+ExtractsAnswered = (ledger label buffer : List ℕ) → AnswersExtract (extract ledger label buffer .answer)
+
+abbrev pub ShortFormsAnswered : Type 0
+ShortFormsAnswered = (n : ℕ) (term buffer : List ℕ) → AnswersShortForm (shorten n term buffer .answer)
+
+abbrev pub DerivationsAnswered : Type 0
+DerivationsAnswered = (derivation ledger label : List ℕ) → AnswersDerivation derivation (checkDerivation derivation ledger label)
+
+-- the number of an answer gives the answer back
+abbrev pub ComesBack : Answer → Type 0
+ComesBack answer = IsIn (number answer) answer
+
+pub record AnswersComeBack : Type 0 where
+  pub acts-for : (ledger p q label : List ℕ) → ComesBack (actsFor ledger p q label)
+  pub flows-to : (ledger p q label : List ℕ) → ComesBack (flowsTo ledger p q label)
+  pub extracts : (ledger label buffer : List ℕ) → ComesBack (extract ledger label buffer .answer)
+  pub short-forms : (n : ℕ) (term buffer : List ℕ) → ComesBack (shorten n term buffer .answer)
+  pub derivations : (derivation ledger label : List ℕ) → ComesBack (checkDerivation derivation ledger label)

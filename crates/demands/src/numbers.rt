@@ -1,0 +1,27 @@
+// To C an answer is one number: which answers each call can give, and what comes out of their numbers.
+ghost use Rattle.demands.specs.Numbers.{QuestionsAnswered, ExtractsAnswered, ShortFormsAnswered, DerivationsAnswered, AnswersComeBack};
+
+// Acts-for and flows-to: yes, no by a coalition of the job, or 10 to 14, 21 to 24, 31 to 34, 41 to 44.
+pub fn a_question_gets_yes_no_or_a_refusal_of_its_list()
+    ensures { λ _. ⌜ QuestionsAnswered ⌝ }
+{}
+
+// An extract: written, or 51, 10 to 14, 41 to 44.
+pub fn an_extract_is_written_or_gets_a_refusal_of_its_list()
+    ensures { λ _. ⌜ ExtractsAnswered ⌝ }
+{}
+
+// A short form: written, of at most 16,388 bytes, or 7, 8, 1 to 4.
+pub fn a_short_form_is_written_or_gets_a_refusal_of_its_list()
+    ensures { λ _. ⌜ ShortFormsAnswered ⌝ }
+{}
+
+// A derivation: accepted, or 10 to 14, 41 to 44, 60, or at one of its steps 61 to 67.
+pub fn a_derivation_is_accepted_or_gets_a_refusal_of_its_list()
+    ensures { λ _. ⌜ DerivationsAnswered ⌝ }
+{}
+
+// Of all five calls, on all lists and numbers: kind, side, coalition, step, refusal and length come back out of the number.
+pub fn every_answer_comes_back_out_of_its_number()
+    ensures { λ _. ⌜ AnswersComeBack ⌝ }
+{}

@@ -6,14 +6,14 @@ use mathlib.Core.List.{List, [], List·Memᴰ·not-nil}
 use Prim.Native.Nat.{ℕ}
 use Rattle.model.specs.Answers.{Side, confidentiality, integrity, Yes}
 use Rattle.model.specs.Terms.{Term, conj, project, NamesBelow, held}
-use Rattle.model.specs.Grants.{Grant, within, actsStatically, visible, spoken, voice, counting, sound}
+use Rattle.model.specs.Grants.{Grant, within, actsStatically, visible, spoken, voice, counting, sound, counts}
 use Rattle.model.specs.Ledgers.{Ledger}
 use Rattle.model.specs.Questions.{soundUnder, flowsToUnder, actsFor, flowsTo}
 use Rattle.model.proofs.Truth.{and-intro, and-left, and-right}
 use Rattle.model.proofs.Search.{within-says}
 use Rattle.model.proofs.Judge.{flows-yes}
 use Rattle.model.proofs.Reading.{accepted-codes}
-use Rattle.model.proofs.Sound.{static-says, counting-elim}
+use Rattle.model.proofs.Sound.{static-says, chosen-elim}
 use Rattle.model.proofs.Accepted.{ledger-below}
 use Rattle.demands.specs.Answers.{Asked}
 use Rattle.demands.specs.Algebra.{GrantsBelow, Carries, voiceOf, ActsForByCoalitions, FlowsToByCoalitions, StaticIsActsFor, VisibleIsFlowsTo, SpokenIsActsForVoice, YesIsActsFor, YesIsFlowsTo}
@@ -96,7 +96,7 @@ spoken-voice n q d qn dn =
 
 -- the grants that count are among the grants
 pub counting-below : (n : ℕ) (L : Term) (gs : List Grant) → GrantsBelow n gs → GrantsBelow n (counting n L gs)
-counting-below n L gs fit g m = fit g (counting-elim n L gs g m .0)
+counting-below n L gs fit g m = fit g (chosen-elim (counts n L) gs g m .0)
 
 -- of a question's accepted inputs, every name is below n
 pub record NamesFit (l : Ledger) (L p q : Term) : Type 0 where

@@ -2,7 +2,7 @@
 use mathlib.Core.Path.{_≡_, refl}
 use mathlib.Core.Logic.{inl, inr}
 use Prim.Native.Nat.{ℕ, zero, suc, _+_, _%_, _≤_, _<_}
-use mathlib.Core.Bool.{true, not, _&&_, _||_}
+use mathlib.Core.Bool.{Bool, true, not, _&&_, _||_}
 use mathlib.Core.List.{List, [], _∷_}
 use native.Mathlib.Omega.{arith}
 use lib.Dec.{eqb, leb, ltb}
@@ -12,7 +12,7 @@ use borrow.Author.Tests.{leb-true}
 use Rattle.model.specs.Bytes.{byte, Reading, accepted, refused, from}
 use Rattle.model.specs.Answers.{confidentiality, integrity, Answer, Yes, No, Written, Refused, RefusedAt, number}
 use Rattle.model.specs.Terms.{Term, readTerm, held}
-use Rattle.model.specs.Grants.{Marks, counts}
+use Rattle.model.specs.Grants.{Grant, Marks, counts}
 use Rattle.model.specs.Ledgers.{Ledger, readLedger}
 use Rattle.model.specs.Questions.{across, soundUnder, actsForUnder, flowsToUnder, ask, actsFor, flowsTo}
 use Rattle.model.specs.Extracts.{extractOf, written, extract}
@@ -126,15 +126,15 @@ short-form-small (Refused r) h = one-below shortFormRefusals r (omega arith) h
 short-form-small (RefusedAt k r) h = absurd h
 
 -- ---- derivations
-step-only : (l : Ledger) (L : Term) (d : List ℕ) (k : ℕ) (step : List ℕ) (r : Rule) → Only (OneOf stepRefusals) (checkStep l L d k step r)
+step-only : (l : Ledger) (f : Grant → Bool) (d : List ℕ) (k : ℕ) (step : List ℕ) (r : Rule) → Only (OneOf stepRefusals) (checkStep l f d k step r)
 unfolding checkStep
-step-only l L d k step r =
+step-only l f d k step r =
     only-require (OneOf stepRefusals) (stepForm r step) 61 _ (inl (omega arith, omega arith))
     (only-require (OneOf stepRefusals) (isAccepted (readLeft (l .names) step)) 62 _ (inl (omega arith, omega arith))
     (only-require (OneOf stepRefusals) (isAccepted (readRight (l .names) step)) 63 _ (inl (omega arith, omega arith))
     (only-require (OneOf stepRefusals) (before (usesOf r .first) (byte 1 step) k && before (usesOf r .second) (byte 2 step) k) 64 _ (inl (omega arith, omega arith))
     (only-require (OneOf stepRefusals) (not (usesOf r .grant) || ltb (byte 3 step) (length (l .grants))) 65 _ (inl (omega arith, omega arith))
-    (only-require (OneOf stepRefusals) (not (usesOf r .grant) || ofGrant (counts (l .names) L) (l .grants) (byte 3 step)) 66 _ (inl (omega arith, omega arith))
+    (only-require (OneOf stepRefusals) (not (usesOf r .grant) || ofGrant f (l .grants) (byte 3 step)) 66 _ (inl (omega arith, omega arith))
     (only-require (OneOf stepRefusals) (meets l r step (stepAt d (byte 1 step)) (stepAt d (byte 2 step))) 67 (accepted tt) (inl (omega arith, omega arith)) tt))))))
 
 on-step-answered : (d : List ℕ) (k : ℕ) (x : Reading (Unit {0})) (next : Answer) → stepCount d ≤ 64 → k < stepCount d
@@ -142,13 +142,13 @@ on-step-answered : (d : List ℕ) (k : ℕ) (x : Reading (Unit {0})) (next : Ans
 on-step-answered d k (accepted u) next few h o t = t
 on-step-answered d k (refused r) next few h o t = (few, h, o)
 
-steps-answered : (l : Ledger) (L : Term) (d : List ℕ) (k count : ℕ) → stepCount d ≤ 64 → k + count ≤ stepCount d → AnswersDerivation d (checkSteps l L d k count)
+steps-answered : (l : Ledger) (f : Grant → Bool) (d : List ℕ) (k count : ℕ) → stepCount d ≤ 64 → k + count ≤ stepCount d → AnswersDerivation d (checkSteps l f d k count)
 unfolding checkSteps
-steps-answered l L d k zero few h = tt
-steps-answered l L d k (suc count) few h =
-    on-step-answered d k (checkStep l L d k (stepAt d k) (ruleOf (byte 0 (stepAt d k)))) (checkSteps l L d (suc k) count) few (omega arith)
-    (step-only l L d k (stepAt d k) (ruleOf (byte 0 (stepAt d k))))
-    (steps-answered l L d (suc k) count few (omega arith))
+steps-answered l f d k zero few h = tt
+steps-answered l f d k (suc count) few h =
+    on-step-answered d k (checkStep l f d k (stepAt d k) (ruleOf (byte 0 (stepAt d k)))) (checkSteps l f d (suc k) count) few (omega arith)
+    (step-only l f d k (stepAt d k) (ruleOf (byte 0 (stepAt d k))))
+    (steps-answered l f d (suc k) count few (omega arith))
 
 pub derivations-answered : DerivationsAnswered
 unfolding checkDerivation
@@ -156,8 +156,8 @@ derivations-answered d ledger label =
     given-case (AnswersDerivation d) (readLedger ledger) _ (only-ledger (OneOf derivationRefusals) ledger (λ r a b. inl (a, b)))
     (λ l _. given-case (AnswersDerivation d) (from 40 (readTerm (l .names) label)) _
     (only-part (OneOf derivationRefusals) 40 (l .names) label (λ r a b. inr (inl (omega arith, omega arith))))
-    (λ L _. cond-case (AnswersDerivation d) (derivationLength (length d)) (checkSteps l L d 0 (stepCount d)) (Refused 60)
-    (λ e. steps-answered l L d 0 (stepCount d) (few e) (omega arith))
+    (λ L _. cond-case (AnswersDerivation d) (derivationLength (length d)) (checkSteps l (counts (l .names) L) d 0 (stepCount d)) (Refused 60)
+    (λ e. steps-answered l (counts (l .names) L) d 0 (stepCount d) (few e) (omega arith))
     (λ _. inr (inr (inl (omega arith, omega arith))))))
   where
     few : derivationLength (length d) ≡ true → stepCount d ≤ 64

@@ -12,7 +12,7 @@ use borrow.Author.Tests.{leb-true}
 use Rattle.model.specs.Bytes.{byte, Reading, accepted, refused, require}
 use Rattle.model.specs.Answers.{Answer, Yes, RefusedAt, Refused as RefusedAnswer}
 use Rattle.model.specs.Terms.{Term, readTerm, member}
-use Rattle.model.specs.Grants.{counts}
+use Rattle.model.specs.Grants.{Grant, counts}
 use Rattle.model.specs.Ledgers.{Ledger, readLedger}
 use Rattle.model.specs.Derivations.{stepAt, ruleOf, usesOf, stepForm, readLeft, readRight, isAccepted, ofGrant, checkStep, onStep, checkSteps, derivationLength, stepCount, checkDerivation, ifAccepted, grantBlock, quote}
 use Rattle.model.proofs.Truth.{and-right}
@@ -83,24 +83,24 @@ module _ (ledger : List ℕ) (n grants : ℕ) (l : Ledger) (of : LedgerOf ledger
       record { is = of .is; names = of .names; left-read = passed .0; right-read = passed .1; grant-there = rw (← of .count) g }
 
   -- the answer for step k, from what each test said
-  pub check-told : (d : List ℕ) (k : ℕ) → step ≡ stepAt d k → (L : Term) (marks : ℕ) → marks ≡ grantBits (counts n L) (l .grants) → (read : StepCheck) (earlier exists counted met : Bool)
+  pub check-told : (d : List ℕ) (k : ℕ) → step ≡ stepAt d k → (f : Grant → Bool) (bits : ℕ) → bits ≡ grantBits f (l .grants) → (read : StepCheck) (earlier exists counted met : Bool)
       → stepCheck (readStep n (ruleOf (byte 0 step)) step) ≡ read
       → premisesBefore (ruleOf (byte 0 step)) step k ≡ earlier
       → (not (usesOf (ruleOf (byte 0 step)) .grant) || ltb (byte 3 step) grants) ≡ exists
-      → (not (usesOf (ruleOf (byte 0 step)) .grant) || member (byte 3 step) marks) ≡ counted
+      → (not (usesOf (ruleOf (byte 0 step)) .grant) || member (byte 3 step) bits) ≡ counted
       → meetsAt l d step ≡ met
-      → stepCheck (checkAt l L d k) ≡ onRead read (tests earlier exists counted met)
+      → stepCheck (checkAt l f d k) ≡ onRead read (tests earlier exists counted met)
   unfolding checkStep readStep
-  check-told d k at L marks are read earlier exists counted met e f g h m =
+  check-told d k at f bits are read earlier exists counted met e b g h m =
       let r = ruleOf (byte 0 step) in
       let here : stepCheck (readStep (l .names) r step) ≡ read = rw (← of .names) e in
       let there : (not (usesOf r .grant) || ltb (byte 3 step) (length (l .grants))) ≡ exists = rw (← of .count) g in
       let many : length (l .grants) ≤ 64 = ledger-stands ledger l (of .is) .count-most in
-      let each : member (byte 3 step) marks ≡ ofGrant (counts n L) (l .grants) (byte 3 step) = rw are (bits-say (counts n L) (l .grants) (byte 3 step) many) in
-      let one : (not (usesOf r .grant) || ofGrant (counts (l .names) L) (l .grants) (byte 3 step)) ≡ counted = rw (← of .names, ← each) h in
-      subst (λ (s : List ℕ). stepCheck (checkStep l L d k s (ruleOf (byte 0 s))) ≡ onRead read (tests earlier exists counted met)) at
+      let each : member (byte 3 step) bits ≡ ofGrant f (l .grants) (byte 3 step) = rw are (bits-say f (l .grants) (byte 3 step) many) in
+      let one : (not (usesOf r .grant) || ofGrant f (l .grants) (byte 3 step)) ≡ counted = rw (← each) h in
+      subst (λ (s : List ℕ). stepCheck (checkStep l f d k s (ruleOf (byte 0 s))) ≡ onRead read (tests earlier exists counted met)) at
       (read-then (stepForm r step) (isAccepted (readLeft (l .names) step)) (isAccepted (readRight (l .names) step)) _
-      ∙ rw (here, f, there, one, m))
+      ∙ rw (here, b, there, one, m))
 
 -- ---- the steps, one after another
 
@@ -113,16 +113,16 @@ step-then : (k : ℕ) (x : Reading (Unit {0})) (next : Answer) → onStep k x ne
 step-then k (accepted u) next = refl
 step-then k (refused r) next = refl
 
-module _ (l : Ledger) (L : Term) (d : List ℕ) where
+module _ (l : Ledger) (f : Grant → Bool) (d : List ℕ) where
   -- the answer for step k and those after it
   pub stepsFrom : ℕ → Answer
-  stepsFrom k = checkSteps l L d k (stepCount d - k)
+  stepsFrom k = checkSteps l f d k (stepCount d - k)
 
-  pub steps-start : stepsFrom 0 ≡ checkSteps l L d 0 (stepCount d)
+  pub steps-start : stepsFrom 0 ≡ checkSteps l f d 0 (stepCount d)
   unfolding stepsFrom
   steps-start = rw (sub-zero (stepCount d))
 
-  pub steps-more : (k : ℕ) (here : StepCheck) (whole : Answer) → k < stepCount d → here ≡ stepCheck (checkAt l L d k) → stepsFrom k ≡ whole → onCheck k here (stepsFrom (k + 1)) ≡ whole
+  pub steps-more : (k : ℕ) (here : StepCheck) (whole : Answer) → k < stepCount d → here ≡ stepCheck (checkAt l f d k) → stepsFrom k ≡ whole → onCheck k here (stepsFrom (k + 1)) ≡ whole
   unfolding stepsFrom checkSteps
   steps-more k here whole h e w =
       let left : stepCount d - k ≡ suc (stepCount d - (k + 1)) = omega arith in
@@ -151,7 +151,7 @@ module _ (d ledger label : List ℕ) where
     label-refused r f = rw (read .is, read .names, f)
 
     both-accepted : (L : Term) → readTerm n label ≡ accepted L
-        → checkDerivation d ledger label ≡ cond (derivationLength (length d)) (checkSteps (read .ledger) L d 0 (stepCount d)) (RefusedAnswer 60)
+        → checkDerivation d ledger label ≡ cond (derivationLength (length d)) (checkSteps (read .ledger) (counts n L) d 0 (stepCount d)) (RefusedAnswer 60)
     unfolding checkDerivation
     both-accepted L f = rw (read .is, read .names, f)
 
@@ -159,14 +159,14 @@ module _ (d ledger label : List ℕ) where
       pub length-refused : derivationLength (length d) ≡ false → checkDerivation d ledger label ≡ RefusedAnswer 60
       length-refused e = rw (both-accepted (term .term) (term .is), e)
 
-      -- what the steps' check says of the marks, and what the marks are
-      pub steps-checked : (marks : ℕ) (answer : Answer) → derivationLength (length d) ≡ true
-          → marks ≡ countedIn ledger n k label
-          → ((l : Ledger) (L : Term) → LedgerOf ledger n k l → marks ≡ grantBits (counts n L) (l .grants) → answer ≡ checkSteps l L d 0 (stepCount d))
+      -- what the steps' check says of the bits, and what the bits are
+      pub steps-checked : (bits : ℕ) (answer : Answer) → derivationLength (length d) ≡ true
+          → bits ≡ countedIn ledger n k label
+          → ((l : Ledger) (f : Grant → Bool) → LedgerOf ledger n k l → bits ≡ grantBits f (l .grants) → answer ≡ checkSteps l f d 0 (stepCount d))
           → answer ≡ checkDerivation d ledger label
-      steps-checked marks answer e counted checked =
+      steps-checked bits answer e counted checked =
           let of = ledger-of ledger n k read in
-          rw (both-accepted (term .term) (term .is), e) (checked (read .ledger) (term .term) of (counted ∙ counted-in ledger n k (read .ledger) of (term .term) label (term .is)))
+          rw (both-accepted (term .term) (term .is), e) (checked (read .ledger) (counts n (term .term)) of (counted ∙ counted-in ledger n k (read .ledger) of (term .term) label (term .is)))
 
 -- ---- quoting
 

@@ -8,6 +8,7 @@ use lib.Dec.{eqb, ltb, leb}
 use lib.ListN.{length}
 use Rattle.model.specs.Bytes.{byte, field, zeros, same, Reading, accepted, refused, require}
 use Rattle.model.specs.Terms.{Term, readTerm}
+use Rattle.model.specs.Grants.{Grant}
 use Rattle.model.specs.Ledgers.{Ledger, readLedger}
 use Rattle.model.specs.Derivations.{stepAt, Rule, ruleOf, isRule, usesOf, stepForm, readLeft, readRight, isAccepted, before, meets, checkStep}
 use Rattle.derivations.specs.declared.StepCheck.{StepCheck}
@@ -60,8 +61,8 @@ abbrev pub meetsAt : Ledger → List ℕ → List ℕ → Bool
 meetsAt l d step = meets l (ruleOf (byte 0 step)) step (stepAt d (byte 1 step)) (stepAt d (byte 2 step))
 
 -- step k of a derivation
-abbrev pub checkAt : Ledger → Term → List ℕ → ℕ → Reading (Unit {0})
-checkAt l L d k = checkStep l L d k (stepAt d k) (ruleOf (byte 0 (stepAt d k)))
+abbrev pub checkAt : Ledger → (Grant → Bool) → List ℕ → ℕ → Reading (Unit {0})
+checkAt l f d k = checkStep l f d k (stepAt d k) (ruleOf (byte 0 (stepAt d k)))
 
 -- what each case of a step's check stands for
 abbrev pub stepCheck : Reading (Unit {0}) → StepCheck

@@ -2,14 +2,14 @@
 use ledgers::LedgerReading;
 use terms::TermReading;
 ghost use mathlib.Core.Path.{_≡_};
-ghost use mathlib.Core.Bool.{not, _&&_, _||_};
+ghost use mathlib.Core.Bool.{Bool, not, _&&_, _||_};
 ghost use mathlib.Core.List.{_∷_, _++_};
 ghost use Prim.Native.Nat.{_+_, _*_, _≤_, _<_};
 ghost use lib.Dec.{eqb, ltb};
 ghost use lib.ListN.{length};
 ghost use Rattle.model.specs.Bytes.{byte, same};
-ghost use Rattle.model.specs.Terms.{Term, member};
-ghost use Rattle.model.specs.Grants.{counts};
+ghost use Rattle.model.specs.Terms.{member};
+ghost use Rattle.model.specs.Grants.{Grant};
 ghost use Rattle.model.specs.Ledgers.{Ledger};
 ghost use Rattle.model.specs.Meanings.{grantBits};
 ghost use Rattle.model.specs.Derivations.{stepAt, left, right, transitive, conjunction, disjunction, ruleOf, isRule, usesOf, stepForm, before, meets, checkSteps, derivationLength, stepCount, checkDerivation, quote};
@@ -378,7 +378,7 @@ fn check_step(
     counted: u64,
 ) -> StepCheck
     requires { ⌜ 136 * (k + 1) ≤ length (now derivation) ⌝ }
-    ensures { λ r. ⌜ ((l : Ledger) (L : Term) → LedgerOf (now (ledger .entry)) n grants l → counted ≡ grantBits (counts n L) (l .grants) → r ≡ stepCheck (checkAt l L (now (derivation .entry)) k)) ⌝ }
+    ensures { λ r. ⌜ ((l : Ledger) (f : Grant → Bool) → LedgerOf (now (ledger .entry)) n grants l → counted ≡ grantBits f (l .grants) → r ≡ stepCheck (checkAt l f (now (derivation .entry)) k)) ⌝ }
 {
     let step = step_at(derivation, k);
     let read = read_step(step, n);
@@ -426,7 +426,7 @@ pub enum Checked {
 // The steps, one after another.
 fn check_steps(derivation: &[u8], ledger: &[u8], n: u64, grants: usize, counted: u64) -> Checked
     requires { ⌜ length (now derivation) ≤ 8704 ⌝ }
-    ensures { λ r. ⌜ ((l : Ledger) (L : Term) → LedgerOf (now (ledger .entry)) n grants l → counted ≡ grantBits (counts n L) (l .grants) → answerOf r ≡ checkSteps l L (now (derivation .entry)) 0 (stepCount (now (derivation .entry)))) ⌝ }
+    ensures { λ r. ⌜ ((l : Ledger) (f : Grant → Bool) → LedgerOf (now (ledger .entry)) n grants l → counted ≡ grantBits f (l .grants) → answerOf r ≡ checkSteps l f (now (derivation .entry)) 0 (stepCount (now (derivation .entry)))) ⌝ }
 {
     let steps = derivation.len() / 136;
     let mut k: usize = 0;

@@ -2,11 +2,11 @@
 -- Assumes nothing.
 use Prim.Native.Nat.{_+_, _-_}
 use native.Mathlib.Omega.{arith}
+use mathlib.Core.Bool.{Bool}
 use mathlib.Core.Path.{_≡_, sym, ap, _∙_}
 use borrow.Author.Needs.{needs}
 use Rattle.model.specs.Answers.{RefusedAt}
-use Rattle.model.specs.Terms.{Term}
-use Rattle.model.specs.Grants.{counts}
+use Rattle.model.specs.Grants.{Grant}
 use Rattle.model.specs.Ledgers.{Ledger}
 use Rattle.model.specs.Meanings.{grantBits}
 use Rattle.model.specs.Derivations.{checkSteps, stepCount}
@@ -19,21 +19,21 @@ use Rattle.derivations.proofs.check_steps.Tie as tie
 
 abbrev Inv-loop : tie.InvT-loop
 Inv-loop derivation ledger n grants counted steps k₀ k =
-    (l : Ledger) (L : Term) → LedgerOf ledger n grants l → counted ≡ grantBits (counts n L) (l .grants) → stepsFrom l L derivation k ≡ checkSteps l L derivation 0 (stepCount derivation)
+    (l : Ledger) (f : Grant → Bool) → LedgerOf ledger n grants l → counted ≡ grantBits f (l .grants) → stepsFrom l f derivation k ≡ checkSteps l f derivation 0 (stepCount derivation)
 
 abbrev μ-loop : tie.MeasureT-loop
 μ-loop derivation ledger n grants counted steps k₀ k = steps - k
 
 -- after the answer s for step k: the answer for all steps
-more : (c : tie.After-check-step Inv-loop μ-loop) (l : Ledger) (L : Term) → let a = c .before .before .before .before .before .args in
-    LedgerOf (a .ledger .now) (a .n) (a .grants) l → a .counted ≡ grantBits (counts (a .n) L) (l .grants) → (s : StepCheck) → c .check-step .result ≡ s
-    → onCheck (c .before .before .loop .k) s (stepsFrom l L (a .derivation .now) (c .before .before .loop .k + 1)) ≡ checkSteps l L (a .derivation .now) 0 (stepCount (a .derivation .now))
-more c l L of are s e =
+more : (c : tie.After-check-step Inv-loop μ-loop) (l : Ledger) (f : Grant → Bool) → let a = c .before .before .before .before .before .args in
+    LedgerOf (a .ledger .now) (a .n) (a .grants) l → a .counted ≡ grantBits f (l .grants) → (s : StepCheck) → c .check-step .result ≡ s
+    → onCheck (c .before .before .loop .k) s (stepsFrom l f (a .derivation .now) (c .before .before .loop .k + 1)) ≡ checkSteps l f (a .derivation .now) 0 (stepCount (a .derivation .now))
+more c l f of are s e =
     let loop = c .before .before .loop in
-    steps-more l L _ (loop .k) s _ (c .before .loop-test .taken) (sym e ∙ c .check-step .ensures l L of are) (loop .inv l L of are)
+    steps-more l f _ (loop .k) s _ (c .before .loop-test .taken) (sym e ∙ c .check-step .ensures l f of are) (loop .inv l f of are)
 
 loop-holds : tie.Need-loop-holds Inv-loop μ-loop
-loop-holds c = λ l L of are. steps-start l L _
+loop-holds c = λ l f of are. steps-start l f _
 
 check-step-requires : tie.Need-check-step-requires Inv-loop μ-loop
 check-step-requires c κs = omega arith
@@ -51,10 +51,10 @@ step-refusal-requires : tie.Need-step-refusal-requires Inv-loop μ-loop
 step-refusal-requires c κs = search needs
 
 returns : tie.Need-returns Inv-loop μ-loop
-returns c = λ l L of are.
+returns c = λ l f of are.
     let told = c .before .enum-told2 .given .1 in
     let s = c .before .before .before in
-    ap (RefusedAt (s .before .before .loop .k)) (c .step-refusal .ensures ∙ ap stepRefusal told) ∙ more s l L of are _ told
+    ap (RefusedAt (s .before .before .loop .k)) (c .step-refusal .ensures ∙ ap stepRefusal told) ∙ more s l f of are _ told
 
 add-k : tie.Need-add-k Inv-loop μ-loop
 add-k c = omega arith
@@ -63,12 +63,12 @@ loop-less : tie.Need-loop-less Inv-loop μ-loop
 loop-less c = omega arith
 
 loop-again : tie.Need-loop-again Inv-loop μ-loop
-loop-again c = λ l L of are. more (c .before .before) l L of are _ (c .enum-told .given .1)
+loop-again c = λ l f of are. more (c .before .before) l f of are _ (c .enum-told .given .1)
 
 returns-2 : tie.Need-returns-2 Inv-loop μ-loop
-returns-2 c = λ l L of are.
+returns-2 c = λ l f of are.
     let loop = c .before .loop in
-    sym (steps-end l L _ (loop .k) (c .loop-test .left)) ∙ loop .inv l L of are
+    sym (steps-end l f _ (loop .k) (c .loop-test .left)) ∙ loop .inv l f of are
 
 pub check-steps-spec : {M : Type 1} → statement M
 check-steps-spec =

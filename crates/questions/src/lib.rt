@@ -110,9 +110,9 @@ fn judge(
     let mut w: u64 = 0;
     while w < words {
         let both = still(found, opposed(question, n, p, q, w));
-        let left = soundness::keep_all(ledger, grants, counted, w, both);
-        found = further(found, w, left);
-        if left.see != 0 {
+        let against = soundness::keep_all(ledger, grants, counted, w, both);
+        found = further(found, w, against);
+        if against.see != 0 {
             return found;
         }
         w += 1;

@@ -2,7 +2,8 @@
 // proved function, and gives its answer as one number.
 use derivations::Checked;
 use extracts::Extracted;
-use questions::{Answer, Side};
+use questions::Answer;
+use questions::Side;
 use short_forms::ShortForm;
 ghost use mathlib.Core.Path.{_≡_};
 ghost use Rattle.model.specs.Answers.{number};

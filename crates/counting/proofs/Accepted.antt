@@ -5,11 +5,10 @@ use Prim.Native.Nat.{ℕ, _≤_}
 use native.Mathlib.Decide.{decLt}
 use native.Mathlib.Omega.{arith}
 use borrow.Author.Tests.{lt-ltb, le-ltb}
-use Rattle.model.specs.Bytes.{accepted}
+use Rattle.model.specs.Readings.{accepted}
 use Rattle.model.specs.Terms.{Term, top, readTerm}
-use Rattle.model.specs.Grants.{Grant, counts}
+use Rattle.model.specs.Grants.{Grant, counts, ofGrant}
 use Rattle.model.specs.Ledgers.{Ledger}
-use Rattle.model.specs.Derivations.{ofGrant}
 use Rattle.model.specs.Meanings.{grantBits}
 use Rattle.model.proofs.Prefixes.{ofGrant-getD, ofGrant-past}
 use Rattle.model.proofs.Stands.{LedgerStands, ledger-stands}

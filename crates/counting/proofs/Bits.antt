@@ -7,7 +7,7 @@ use native.Mathlib.Omega.{arith}
 use mir.Val.{boolByte}
 use lib.Bits.{bitOr, or-shifted}
 use lib.Pow.{pow-mono}
-use Rattle.model.specs.Extracts.{bit, packed}
+use Rattle.model.specs.Coalitions.{bit, packed}
 use Rattle.model.proofs.Packed.{bit-lt, packed-lt}
 use Rattle.words.proofs.Packing.{packed-zero}
 

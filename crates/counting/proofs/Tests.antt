@@ -3,10 +3,10 @@ use mathlib.Core.Path.{_≡_, sym, _∙_}
 use mathlib.Core.Bool.{Bool, _||_}
 use Prim.Native.Nat.{ℕ, _-_, _*_}
 use lib.Bits.{bitAnd, bitOr}
-use Rattle.model.specs.Answers.{confidentiality, integrity}
+use Rattle.model.specs.Sides.{confidentiality, integrity}
+use Rattle.model.specs.Coalitions.{mark, packed}
 use Rattle.model.specs.Terms.{Term, held}
 use Rattle.model.specs.Grants.{Grant, voice}
-use Rattle.model.specs.Extracts.{mark, packed}
 use Rattle.model.proofs.Bars.{lacks, barsCounting, barsActing}
 use Rattle.words.specs.Evaluation.{heldWord, coalitionWord, WordsAt}
 use Rattle.words.proofs.Packing.{packed-and, packed-or, packed-lacks, packed-zero}

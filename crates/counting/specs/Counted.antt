@@ -5,12 +5,12 @@ use mathlib.Core.List.{List}
 use Prim.Native.Nat.{ℕ}
 use lib.Dec.{ltb}
 use lib.ListN.{length}
-use Rattle.model.specs.Answers.{confidentiality, integrity}
-use Rattle.model.specs.Bytes.{accepted}
+use Rattle.model.specs.Sides.{confidentiality, integrity}
+use Rattle.model.specs.Readings.{accepted}
+use Rattle.model.specs.Coalitions.{packed}
 use Rattle.model.specs.Terms.{Term}
 use Rattle.model.specs.Grants.{Grant, counts}
 use Rattle.model.specs.Ledgers.{Ledger, readLedger}
-use Rattle.model.specs.Extracts.{packed}
 use Rattle.words.specs.AnyBytes.{termIn, grantIn}
 use Rattle.words.specs.Evaluation.{jobOf, wordsOf, Tabled}
 

@@ -2,10 +2,10 @@
 ghost use mathlib.Core.Path.{_≡_};
 ghost use mathlib.Core.Bool.{Bool, not, _&&_};
 ghost use Prim.Native.Nat.{ℕ, _*_};
-ghost use Rattle.model.specs.Answers.{integrity};
+ghost use Rattle.model.specs.Sides.{integrity};
+ghost use Rattle.model.specs.Coalitions.{packed};
 ghost use Rattle.model.specs.Terms.{Term};
 ghost use Rattle.model.specs.Grants.{Grant, actsStatically, voice, counts};
-ghost use Rattle.model.specs.Extracts.{packed};
 ghost use Rattle.words.specs.AnyBytes.{termIn};
 ghost use Rattle.words.specs.Evaluation.{jobOf};
 ghost use Rattle.counting.specs.Counted.{countedIn, GrantGiven};

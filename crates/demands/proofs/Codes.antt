@@ -3,8 +3,8 @@ use mathlib.Core.Path.{_≡_}
 use Prim.Native.Nat.{ℕ}
 use mathlib.Core.List.{List, [], _∷_, _++_}
 use native.Mathlib.Omega.{arith}
-use Rattle.model.specs.Bytes.{accepted}
-use Rattle.model.specs.Answers.{confidentiality, integrity}
+use Rattle.model.specs.Sides.{confidentiality, integrity}
+use Rattle.model.specs.Readings.{accepted}
 use Rattle.model.specs.Terms.{Term, name, top, bottom, conj, disj, project, codes, NamesBelow, readTerm}
 use Rattle.model.proofs.Reading.{accepted-codes}
 use Rattle.demands.specs.Extracts.{AllBelow}

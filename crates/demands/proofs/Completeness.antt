@@ -7,9 +7,10 @@ use Prim.Native.Nat.{ℕ, zero, suc, _+_, _<_}
 use native.Mathlib.Nat.{add-zero, add-suc, suc-add, zero-add}
 use native.Mathlib.Omega.{arith}
 use lib.ListN.{length}
-use Rattle.model.specs.Answers.{Side, confidentiality, integrity}
+use Rattle.model.specs.Sides.{Side, confidentiality, integrity}
+use Rattle.model.specs.Coalitions.{implies}
 use Rattle.model.specs.Terms.{Term, name, top, bottom, conj, disj, project, NamesBelow, held}
-use Rattle.model.specs.Grants.{Grant, implies, sound}
+use Rattle.model.specs.Grants.{Grant, sound}
 use Rattle.demands.specs.Algebra.{ActsFor, botR, topL, self, proj, projR, conjL₁, conjL₂, conjR, disjL, disjR₁, disjR₂, then, conj-project, disj-project, crossed, grant, GrantsBelow, Carries}
 use Rattle.model.proofs.Truth.{and-left, and-right, or-elim}
 use Rattle.demands.proofs.Principals.{twice, by-sides, cut}

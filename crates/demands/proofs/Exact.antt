@@ -4,10 +4,12 @@ use mathlib.Core.Logic.{_↔_, Iff·trans, Iff·symm}
 use mathlib.Core.Bool.{true}
 use mathlib.Core.List.{List, [], List·Memᴰ·not-nil}
 use Prim.Native.Nat.{ℕ}
-use Rattle.model.specs.Answers.{Side, confidentiality, integrity, Yes}
+use Rattle.model.specs.Sides.{Side, confidentiality, integrity}
+use Rattle.model.specs.Coalitions.{within}
 use Rattle.model.specs.Terms.{Term, conj, project, NamesBelow, held}
-use Rattle.model.specs.Grants.{Grant, within, actsStatically, visible, spoken, voice, counting, sound, counts}
+use Rattle.model.specs.Grants.{Grant, actsStatically, visible, spoken, voice, counting, sound, counts}
 use Rattle.model.specs.Ledgers.{Ledger}
+use Rattle.model.specs.Answers.{Yes}
 use Rattle.model.specs.Questions.{soundUnder, flowsToUnder, actsFor, flowsTo}
 use Rattle.model.proofs.Truth.{and-intro, and-left, and-right}
 use Rattle.model.proofs.Search.{within-says}

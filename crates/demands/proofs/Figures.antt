@@ -9,15 +9,18 @@ use lib.Dec.{eqb, leb, ltb}
 use lib.ListN.{length}
 use lib.Pow.{pow-mono}
 use borrow.Author.Tests.{leb-true}
-use Rattle.model.specs.Bytes.{byte, Reading, accepted, refused, from}
-use Rattle.model.specs.Answers.{confidentiality, integrity, Answer, Yes, No, Written, Refused, RefusedAt, number}
+use Rattle.model.specs.Sides.{confidentiality, integrity}
+use Rattle.model.specs.Bytes.{byte}
+use Rattle.model.specs.Readings.{Reading, accepted, refused, from, isAccepted}
+use Rattle.model.specs.Coalitions.{Marks}
 use Rattle.model.specs.Terms.{Term, readTerm, held}
-use Rattle.model.specs.Grants.{Grant, Marks, counts}
+use Rattle.model.specs.Grants.{Grant, counts, ofGrant}
 use Rattle.model.specs.Ledgers.{Ledger, readLedger}
+use Rattle.model.specs.Answers.{Answer, Yes, No, Written, Refused, RefusedAt, number}
 use Rattle.model.specs.Questions.{across, soundUnder, actsForUnder, flowsToUnder, ask, actsFor, flowsTo}
 use Rattle.model.specs.Extracts.{extractOf, written, extract}
 use Rattle.model.specs.ShortForms.{shortFormOf, writtenFront, shorten}
-use Rattle.model.specs.Derivations.{stepAt, Rule, ruleOf, usesOf, stepForm, readLeft, readRight, isAccepted, before, ofGrant, meets, checkStep, onStep, checkSteps, derivationLength, stepCount, checkDerivation}
+use Rattle.model.specs.Derivations.{stepAt, Rule, ruleOf, usesOf, stepForm, readLeft, readRight, before, meets, checkStep, onStep, checkSteps, derivationLength, stepCount, checkDerivation}
 use Rattle.model.proofs.Truth.{and-right, cond-case}
 use Rattle.model.proofs.Judge.{judge-no, judge-case}
 use Rattle.model.proofs.Accepted.{names-range}

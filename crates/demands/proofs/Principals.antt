@@ -1,6 +1,6 @@
 -- What Definitions 1 and 2 say beyond the rules' constructors, derived; and the cut.
 use mathlib.Core.List.{List}
-use Rattle.model.specs.Answers.{Side, confidentiality, integrity}
+use Rattle.model.specs.Sides.{Side, confidentiality, integrity}
 use Rattle.model.specs.Terms.{Term, bottom, conj, disj, project}
 use Rattle.model.specs.Grants.{Grant}
 use Rattle.demands.specs.Algebra.{other, ActsFor, botR, self, proj, projR, conjL₁, conjL₂, conjR, disjL, disjR₁, disjR₂, then, distr, conj-project, disj-project, basis, crossed, ProjectionLaws}

@@ -5,10 +5,11 @@ use mathlib.Core.Bool.{Bool, true, false, _&&_}
 use mathlib.Core.List.{List, [], _∷_}
 use native.Mathlib.Omega.{arith}
 use lib.ListN.{length}
-use Rattle.model.specs.Bytes.{byte, Reading, accepted, refused, andThen, from, require}
-use Rattle.model.specs.Answers.{Answer, Refused, given}
+use Rattle.model.specs.Bytes.{byte}
+use Rattle.model.specs.Readings.{Reading, accepted, refused, andThen, from, require, refusedAs}
 use Rattle.model.specs.Terms.{Term, readTerm}
-use Rattle.model.specs.Ledgers.{header, grantBlocks, checked, allChecked, headerForm, grantForm, refusedAs, readTerms, readGrant, readGrants, ledgerLength, readLedger}
+use Rattle.model.specs.Ledgers.{header, grantBlocks, checked, allChecked, headerForm, grantForm, readTerms, readGrant, readGrants, ledgerLength, readLedger}
+use Rattle.model.specs.Answers.{Answer, Refused, given}
 use Rattle.model.proofs.Refusals.{refused-number}
 
 -- no refusal of the reading but one of R

@@ -3,7 +3,7 @@ use mathlib.Core.Path.{_≡_, refl, ap₂}
 use mathlib.Core.Bool.{_&&_, _||_}
 use mathlib.Core.List.{List, [], List·Memᴰ·not-nil}
 use Prim.Native.Nat.{ℕ}
-use Rattle.model.specs.Answers.{Side, confidentiality, integrity}
+use Rattle.model.specs.Sides.{Side, confidentiality, integrity}
 use Rattle.model.specs.Terms.{Term, name, top, bottom, conj, disj, project, NamesBelow, held}
 use Rattle.model.specs.Grants.{Grant, voice}
 use Rattle.demands.specs.Algebra.{ActsFor, botR, topL, self, proj, projR, conjL₁, conjL₂, conjR, disjL, disjR₁, disjR₂, then, distr, conj-project, disj-project, basis, crossed, grant, Same, sideOf, normal, voiceOf, Unprojected, HasNormalForm, VoiceOfNormalForms, VoiceIsHeld}

@@ -3,7 +3,7 @@ use mathlib.Core.Path.{_≡_, refl, sym, _∙_}
 use mathlib.Core.Bool.{true, _&&_, _||_, false≢true, and-or-distrib-left}
 use mathlib.Core.List.{List}
 use Prim.Native.Nat.{ℕ}
-use Rattle.model.specs.Answers.{Side, confidentiality, integrity}
+use Rattle.model.specs.Sides.{Side, confidentiality, integrity}
 use Rattle.model.specs.Terms.{Term, conj, disj, project, held}
 use Rattle.model.specs.Grants.{Grant, sound}
 use Rattle.model.proofs.Held.{project-held}

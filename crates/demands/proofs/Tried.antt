@@ -5,13 +5,14 @@ use mathlib.Core.Bool.{true, or-true}
 use mathlib.Core.List.{[], _∷_}
 use lib.ListN.{length}
 use borrow.Author.Tests.{eq-eqb}
+use Rattle.model.specs.Sides.{Side, confidentiality, integrity}
 use Rattle.model.specs.Bytes.{zeros, pieces, joined}
-use Rattle.model.specs.Answers.{Side, confidentiality, integrity}
-use Rattle.model.specs.Terms.{name, bottom, disj, project, codes, codeOf, readWithin, readTerm, member, held}
-use Rattle.model.specs.Grants.{every, within, visible, voice, spoken, counts, chosen, sound}
+use Rattle.model.specs.Coalitions.{member, every, within, lowest, mark, packed}
+use Rattle.model.specs.Terms.{name, bottom, disj, project, codes, codeOf, readWithin, readTerm, held}
+use Rattle.model.specs.Grants.{visible, voice, spoken, counts, chosen, sound}
 use Rattle.model.specs.Ledgers.{weighted, checkOf, checked, grantBlocks, allChecked, headerForm, grantForm, readTerms, readGrant, readGrants, readLedger, withCheck, ledgerOf}
-use Rattle.model.specs.Questions.{lowest, refutes, judge, across, soundUnder, actsForUnder, flowsToUnder, ask, actsFor, flowsTo}
-use Rattle.model.specs.Extracts.{mark, packed, packedBytes, table, extractOf, extract}
+use Rattle.model.specs.Questions.{refutes, judge, across, soundUnder, actsForUnder, flowsToUnder, ask, actsFor, flowsTo}
+use Rattle.model.specs.Extracts.{packedBytes, table, extractOf, extract}
 use Rattle.demands.specs.Cases.{plain, oneGrant, sideSpoken, sideLabelled, HeldEverywhere, WorkedCases, WrongTurns}
 
 either-held : HeldEverywhere 2 (0x31 ∷ 0x40 ∷ 0x00 ∷ 0x41 ∷ 0x01 ∷ [])

@@ -5,13 +5,14 @@ use mathlib.Core.Path.{_≡_}
 use mathlib.Core.Logic.{_↔_}
 use mathlib.Core.Bool.{true}
 use mathlib.Core.List.{List, [], List·Memᴰ}
-use Rattle.model.specs.Answers.{Side, confidentiality, integrity, Yes}
+use Rattle.model.specs.Sides.{Side, confidentiality, integrity}
 use Rattle.model.specs.Terms.{Term, name, top, bottom, conj, disj, project, NamesBelow, held}
 use Rattle.model.specs.Grants.{Grant, actsStatically, visible, voice, spoken, counting, sound}
 use Rattle.model.specs.Ledgers.{Ledger}
+use Rattle.model.specs.Answers.{Yes}
 use Rattle.model.specs.Questions.{actsFor, flowsTo}
-use Rattle.demands.specs.Answers.{Asked}
 use Rattle.model.specs.Meanings.{Holds}
+use Rattle.demands.specs.Answers.{Asked}
 
 -- a side's other side
 abbrev pub other : Side → Side

@@ -4,10 +4,11 @@ use Prim.Native.Nat.{ℕ}
 use mathlib.Core.Bool.{true}
 use mathlib.Core.List.{List, [], _∷_, _++_}
 use lib.ListN.{length, replicate}
-use Rattle.model.specs.Bytes.{accepted}
-use Rattle.model.specs.Answers.{Side, confidentiality, integrity, Yes, No}
+use Rattle.model.specs.Sides.{Side, confidentiality, integrity}
+use Rattle.model.specs.Readings.{accepted}
 use Rattle.model.specs.Terms.{Term, readTerm, held}
 use Rattle.model.specs.Ledgers.{withCheck, ledgerOf}
+use Rattle.model.specs.Answers.{Yes, No}
 use Rattle.model.specs.Questions.{actsFor, flowsTo}
 use Rattle.model.specs.Extracts.{extract}
 

@@ -4,9 +4,9 @@ use mathlib.Core.Path.{_≡_}
 use mathlib.Core.Logic.{_⊎_}
 use Prim.Native.Nat.{ℕ, _/_, _%_, _^_, _≤_, _<_}
 use mathlib.Core.List.{List, [], _∷_}
-use Rattle.model.specs.Bytes.{accepted}
-use Rattle.model.specs.Answers.{Answer, Yes, No, Written, Refused, RefusedAt, sideNumber, number}
+use Rattle.model.specs.Readings.{accepted}
 use Rattle.model.specs.Ledgers.{Ledger, readLedger}
+use Rattle.model.specs.Answers.{Answer, Yes, No, Written, Refused, RefusedAt, sideNumber, number}
 use Rattle.model.specs.Questions.{actsFor, flowsTo}
 use Rattle.model.specs.Extracts.{extract}
 use Rattle.model.specs.ShortForms.{shorten}

@@ -5,7 +5,7 @@ use mathlib.Core.Logic.{_↔_}
 use mathlib.Core.Path.{_≡_}
 use mathlib.Core.List.{List, _++_}
 use lib.ListN.{length}
-use Rattle.model.specs.Bytes.{accepted, refused}
+use Rattle.model.specs.Readings.{accepted, refused}
 use Rattle.model.specs.Terms.{Term, codes, NamesBelow, readTerm}
 use Rattle.model.specs.Refusals.{RightLength, WrongLength, Beginning, NoCode, CodesLeft}
 

@@ -5,10 +5,11 @@ use mathlib.Core.Path.{_≡_}
 use mathlib.Core.Logic.{_↔_}
 use mathlib.Core.Bool.{true}
 use mathlib.Core.List.{List, List·Memᴰ}
-use Rattle.model.specs.Answers.{Side, Yes}
+use Rattle.model.specs.Sides.{Side}
 use Rattle.model.specs.Terms.{Term, conj, disj, project, NamesBelow}
 use Rattle.model.specs.Grants.{Grant, actsStatically, counting}
 use Rattle.model.specs.Ledgers.{Ledger}
+use Rattle.model.specs.Answers.{Yes}
 use Rattle.model.specs.Questions.{actsFor}
 use Rattle.demands.specs.Answers.{Asked}
 use Rattle.demands.specs.Algebra.{GrantsBelow, Carries}

@@ -9,12 +9,15 @@ use mathlib.Core.List.{List, []}
 use lib.Dec.{eqb, ltb, leb}
 use lib.ListN.{length}
 use borrow.Author.Tests.{leb-true}
-use Rattle.model.specs.Bytes.{byte, Reading, accepted, refused, require}
+use Rattle.model.specs.Bytes.{byte}
+use Rattle.model.specs.Readings.{Reading, accepted, refused, require, isAccepted}
+use Rattle.model.specs.Coalitions.{member}
+use Rattle.model.specs.Terms.{Term, readTerm}
+use Rattle.model.specs.Grants.{Grant, counts, ofGrant}
+use Rattle.model.specs.Ledgers.{Ledger, readLedger, grantBlock}
 use Rattle.model.specs.Answers.{Answer, Yes, RefusedAt, Refused as RefusedAnswer}
-use Rattle.model.specs.Terms.{Term, readTerm, member}
-use Rattle.model.specs.Grants.{Grant, counts}
-use Rattle.model.specs.Ledgers.{Ledger, readLedger}
-use Rattle.model.specs.Derivations.{stepAt, ruleOf, usesOf, stepForm, readLeft, readRight, isAccepted, ofGrant, checkStep, onStep, checkSteps, derivationLength, stepCount, checkDerivation, ifAccepted, grantBlock, quote}
+use Rattle.model.specs.Derivations.{stepAt, ruleOf, usesOf, stepForm, readLeft, readRight, checkStep, onStep, checkSteps, derivationLength, stepCount, checkDerivation, ifAccepted, quote}
+use Rattle.model.specs.Meanings.{grantBits}
 use Rattle.model.proofs.Truth.{and-right}
 use Rattle.model.proofs.Stands.{ledger-stands}
 use Rattle.terms.specs.Readings.{termReading}
@@ -24,7 +27,6 @@ use Rattle.ledgers.proofs.Accepted.{AcceptedLedger, ledger-of}
 use Rattle.terms.specs.declared.TermReading.{TermReading}
 use Rattle.terms.specs.declared.TermReading.the-variants.{Accepted as TermAccepted, Refused as TermRefused}
 use Rattle.counting.specs.Counted.{countedIn}
-use Rattle.model.specs.Meanings.{grantBits}
 use Rattle.model.proofs.Prefixes.{bits-say}
 use Rattle.counting.proofs.Accepted.{counted-in}
 use Rattle.derivations.specs.Steps.{readField, readStep, premisesBefore, Ready, meetsAt, checkAt, stepCheck}

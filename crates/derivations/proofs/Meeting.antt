@@ -7,11 +7,12 @@ use mathlib.Core.List.{List}
 use lib.Dec.{ltb, leb}
 use lib.ListN.{length}
 use borrow.Author.Tests.{ltb-true}
-use Rattle.model.specs.Bytes.{byte, same, Reading, accepted, refused, require}
+use Rattle.model.specs.Bytes.{byte, same}
+use Rattle.model.specs.Readings.{Reading, accepted, refused, require, isAccepted}
 use Rattle.model.specs.Terms.{Term, bottom, codes, readTerm}
 use Rattle.model.specs.Grants.{Grant, actsStatically}
-use Rattle.model.specs.Ledgers.{Ledger, pBytes, qBytes}
-use Rattle.model.specs.Derivations.{stepAt, left, right, Rule, static, granted, ruleOf, readLeft, readRight, isAccepted, meets, grantBlock}
+use Rattle.model.specs.Ledgers.{Ledger, pBytes, qBytes, grantBlock}
+use Rattle.model.specs.Derivations.{stepAt, left, right, Rule, static, granted, ruleOf, readLeft, readRight, meets}
 use Rattle.model.proofs.Stands.{ledger-stands}
 use Rattle.model.proofs.Prefixes.{ofGrant-getD}
 use Rattle.words.specs.AnyBytes.{termIn}

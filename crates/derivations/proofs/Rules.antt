@@ -7,7 +7,7 @@ use mathlib.Core.Bool.{false, _&&_, and-assoc, and-false}
 use mathlib.Core.List.{List}
 use lib.Dec.{eqb, leb}
 use borrow.Author.Tests.{ne-eqb, lt-leb}
-use Rattle.model.specs.Answers.{confidentiality, integrity}
+use Rattle.model.specs.Sides.{confidentiality, integrity}
 use Rattle.model.specs.Derivations.{Rule, static, granted, transitive, conjunction, disjunction, projection, noRule, ruleOf, isRule, usesOf, stepForm}
 use Rattle.derivations.specs.Steps.{fieldsForm, pastTerm, fillerForm}
 

@@ -6,11 +6,12 @@ use mathlib.Core.Bool.{Bool, true, not, _&&_, _||_}
 use mathlib.Core.List.{List, _∷_, _++_}
 use lib.Dec.{eqb, ltb, leb}
 use lib.ListN.{length}
-use Rattle.model.specs.Bytes.{byte, field, zeros, same, Reading, accepted, refused, require}
+use Rattle.model.specs.Bytes.{byte, field, zeros, same}
+use Rattle.model.specs.Readings.{Reading, accepted, refused, require, isAccepted}
 use Rattle.model.specs.Terms.{Term, readTerm}
 use Rattle.model.specs.Grants.{Grant}
 use Rattle.model.specs.Ledgers.{Ledger, readLedger}
-use Rattle.model.specs.Derivations.{stepAt, Rule, ruleOf, isRule, usesOf, stepForm, readLeft, readRight, isAccepted, before, meets, checkStep}
+use Rattle.model.specs.Derivations.{stepAt, Rule, ruleOf, isRule, usesOf, stepForm, readLeft, readRight, before, meets, checkStep}
 use Rattle.derivations.specs.declared.StepCheck.{StepCheck}
 use Rattle.derivations.specs.declared.StepCheck.the-variants.{Accepted, Refused}
 

@@ -9,9 +9,9 @@ use native.Mathlib.Omega.{arith}
 use lib.ListN.{length, drop, length-replicate, replicate-append-replicate}
 use lib.Seq.{paste, drop-at}
 use borrow.Author.Tests.{le-ltb}
-use Rattle.model.specs.Answers.{confidentiality, integrity}
-use Rattle.model.specs.Grants.{Marks}
-use Rattle.model.specs.Extracts.{mark, packed, packedBytes}
+use Rattle.model.specs.Sides.{confidentiality, integrity}
+use Rattle.model.specs.Coalitions.{Marks, mark, packed}
+use Rattle.model.specs.Extracts.{packedBytes}
 use Rattle.model.proofs.Table.{length-packed}
 use Rattle.words.specs.Evaluation.{wordsOf}
 use Rattle.words.proofs.Packing.{packed-zero}

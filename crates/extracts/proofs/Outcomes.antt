@@ -5,12 +5,12 @@ use Prim.Native.Nat.{ℕ, _+_}
 use lib.ListN.{length}
 use lib.Seq.{paste}
 use borrow.Author.Tests.{eq-eqb, ne-eqb}
-use Rattle.model.specs.Bytes.{accepted, refused}
-use Rattle.model.specs.Answers.{Yes, Refused, Outcome}
+use Rattle.model.specs.Readings.{accepted, refused}
+use Rattle.model.specs.Coalitions.{Marks}
 use Rattle.model.specs.Terms.{Term, readTerm}
 use Rattle.model.specs.Ledgers.{Ledger, readLedger}
+use Rattle.model.specs.Answers.{Yes, Refused, Outcome}
 use Rattle.model.specs.Questions.{soundUnder}
-use Rattle.model.specs.Grants.{Marks}
 use Rattle.model.specs.Extracts.{table, extractOf, extract}
 use Rattle.model.proofs.Table.{length-packed}
 use Rattle.extracts.specs.Halves.{Halves}

@@ -7,7 +7,8 @@ use native.Mathlib.Nat.{not-suc-le-zero, le-of-suc-le-suc, div-one}
 use native.Mathlib.Omega.{arith}
 use lib.ListN.{length, getD}
 use lib.Pow.{shr-shr}
-use Rattle.model.specs.Extracts.{packed, packedBytes}
+use Rattle.model.specs.Coalitions.{packed}
+use Rattle.model.specs.Extracts.{packedBytes}
 use Rattle.model.proofs.Packed.{packed-lt}
 use Rattle.words.proofs.Packing.{packed-split}
 use Rattle.extracts.specs.Halves.{littleEndian}

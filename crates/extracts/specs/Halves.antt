@@ -3,9 +3,9 @@ use mathlib.Core.Path.{_≡_}
 use mathlib.Core.List.{List, [], _∷_}
 use Prim.Native.Nat.{ℕ, zero, suc, _/_, _%_}
 use lib.ListN.{replicate}
-use Rattle.model.specs.Answers.{confidentiality, integrity}
-use Rattle.model.specs.Grants.{Marks}
-use Rattle.model.specs.Extracts.{mark, packedBytes}
+use Rattle.model.specs.Sides.{confidentiality, integrity}
+use Rattle.model.specs.Coalitions.{Marks, mark}
+use Rattle.model.specs.Extracts.{packedBytes}
 
 -- the k lowest bytes of a number, lowest first
 unfoldable pub littleEndian : ℕ → ℕ → List ℕ

@@ -4,7 +4,7 @@ use native.Mathlib.Omega.{arith}
 use mathlib.Core.Path.{_≡_, refl, sym, ap, _∙_}
 use mathlib.Core.List.{List}
 use lib.ListN.{length}
-use Rattle.model.specs.Bytes.{Reading, accepted, refused}
+use Rattle.model.specs.Readings.{Reading, accepted, refused}
 use Rattle.model.specs.Ledgers.{Ledger, readLedger}
 use Rattle.model.proofs.Stands.{LedgerStands, ledger-stands}
 use Rattle.ledgers.specs.Readings.{ledgerReading, ledgerRefusal, LedgerOf}

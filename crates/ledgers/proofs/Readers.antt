@@ -6,10 +6,11 @@ use mathlib.Core.Bool.{true}
 use mathlib.Core.List.{List, [], _∷_}
 use lib.ListN.{length, take, drop, drop-of-length-le}
 use lib.Seq.{drop-cons}
-use Rattle.model.specs.Bytes.{field, Reading, accepted, refused, andThen}
+use Rattle.model.specs.Bytes.{field}
+use Rattle.model.specs.Readings.{Reading, accepted, refused, andThen, refusedAs}
 use Rattle.model.specs.Terms.{Term, readTerm}
 use Rattle.model.specs.Grants.{Grant}
-use Rattle.model.specs.Ledgers.{grantBlocks, grantForm, pBytes, qBytes, labelBytes, refusedAs, readTerms, readGrant, readGrants}
+use Rattle.model.specs.Ledgers.{grantBlocks, grantForm, pBytes, qBytes, labelBytes, readTerms, readGrant, readGrants}
 use Rattle.model.proofs.Blocks.{length-grantBlocks, getD-grantBlocks}
 use Rattle.model.proofs.Stands.{read-grants}
 use Rattle.terms.specs.Readings.{termReading}

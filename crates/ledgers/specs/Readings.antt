@@ -4,7 +4,7 @@ use mathlib.Core.Path.{_≡_}
 use mathlib.Core.List.{List}
 use Prim.Native.Nat.{ℕ}
 use lib.ListN.{length}
-use Rattle.model.specs.Bytes.{Reading, accepted, refused}
+use Rattle.model.specs.Readings.{Reading, accepted, refused}
 use Rattle.model.specs.Ledgers.{Ledger, readLedger}
 use Rattle.ledgers.specs.declared.GrantReading.{GrantReading}
 use Rattle.ledgers.specs.declared.GrantReading.the-variants.{Accepted, Refused}

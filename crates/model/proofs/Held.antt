@@ -2,7 +2,7 @@
 use mathlib.Core.Path.{_≡_, refl}
 use Prim.Native.Nat.{ℕ}
 use mathlib.Core.Bool.{Bool, true, false, _&&_, _||_}
-use Rattle.model.specs.Answers.{Side, confidentiality, integrity}
+use Rattle.model.specs.Sides.{Side, confidentiality, integrity}
 use Rattle.model.specs.Terms.{Term, top, bottom, conj, disj, project, held}
 
 pub top-never : (s : Side) (c : ℕ) → held top s c ≡ false

@@ -9,11 +9,10 @@ use native.Mathlib.Omega.{arith}
 use mathlib.Core.Bool.{Bool, true, false, not, _&&_}
 use lib.Dec.{eqb}
 use borrow.Author.Tests.{eqb-true, eqb-false, ne-eqb, not-true}
-use Rattle.model.specs.Answers.{Side, confidentiality, integrity}
-use Rattle.model.specs.Terms.{Term, name, top, bottom, conj, disj, project, NamesBelow, member, held}
-use Rattle.model.specs.Grants.{implies, every}
-use Rattle.model.specs.Questions.{Lowest, nowhere, at, lowest}
-use Rattle.model.specs.ShortForms.{properSubset, minimal}
+use Rattle.model.specs.Sides.{Side, confidentiality, integrity}
+use Rattle.model.specs.Coalitions.{member, implies, every, Lowest, nowhere, at, lowest, properSubset}
+use Rattle.model.specs.Terms.{Term, name, top, bottom, conj, disj, project, NamesBelow, held}
+use Rattle.model.specs.ShortForms.{minimal}
 use Rattle.model.proofs.Truth.{clash, true-of, false-of, and-intro, and-left, and-right, or-left, or-right, or-elim, bool-ext, implies-elim, implies-intro}
 use Rattle.model.proofs.Search.{Says, every-elim, every-intro, lowest-says}
 use Rattle.model.proofs.Packed.{member-zero, member-suc, bits-ext}

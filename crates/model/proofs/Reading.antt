@@ -8,8 +8,8 @@ use mathlib.Core.List.{List, [], _∷_, _++_, append-assoc, append-nil}
 use lib.Dec.{ltb, leb, eqb}
 use lib.ListN.{length, length-append}
 use borrow.Author.Tests.{ltb-true, eqb-true, leb-true, lt-ltb, le-leb}
-use Rattle.model.specs.Bytes.{Reading, accepted, refused, require}
-use Rattle.model.specs.Answers.{Side, confidentiality, integrity}
+use Rattle.model.specs.Sides.{Side, confidentiality, integrity}
+use Rattle.model.specs.Readings.{Reading, accepted, refused, require}
 use Rattle.model.specs.Terms.{Term, name, top, bottom, conj, disj, project, projectCode, codes, NamesBelow, Code, whole, one, two, none, codeOf, Front, found, stopped, onward, readParts, readWithin, readFront, allRead, termLength, readTerm}
 use Rattle.model.proofs.Truth.{cond-case}
 

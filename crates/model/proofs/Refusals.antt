@@ -6,7 +6,7 @@ use mathlib.Core.Logic.{_↔_, _⊎_, inl, inr, ⊎-elim}
 use mathlib.Core.Path.{_≡_, refl, ap, _∙_}
 use mathlib.Core.List.{List, [], _∷_, _++_, append-assoc, append-nil}
 use lib.ListN.{length, length-append}
-use Rattle.model.specs.Bytes.{refused}
+use Rattle.model.specs.Readings.{refused}
 use Rattle.model.specs.Terms.{Term, name, top, bottom, conj, disj, project, projectCode, codes, NamesBelow, Code, whole, one, two, none, codeOf, Front, found, stopped, onward, readParts, readFront, allRead, readTerm}
 use Rattle.model.specs.Refusals.{RightLength, WrongLength, Beginning, NoCode, CodesLeft}
 use Rattle.model.proofs.Reading.{Right, code-right, rest-shorter, front-none, front-step, front-sound, code-project, front-codes, term-within, term-case}

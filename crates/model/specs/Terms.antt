@@ -1,12 +1,13 @@
 -- Document 01, "Terms": what a term is, its codes, how bytes are read as a term, and where a term is held.
 -- Assumes nothing: these are definitions.
+use Rattle.model.specs.Sides.{Side, confidentiality, integrity}
+use Rattle.model.specs.Readings.{Reading, accepted, refused, require}
+use Rattle.model.specs.Coalitions.{member}
 use Prim.Native.Nat.{ℕ, zero, suc, _/_, _%_, _^_, _<_}
 use mathlib.Core.Bool.{Bool, true, false, cond, _&&_, _||_}
 use mathlib.Core.List.{List, [], _∷_, _++_}
 use lib.Dec.{eqb, ltb, leb}
 use lib.ListN.{length}
-use Rattle.model.specs.Bytes.{Reading, accepted, refused, require}
-use Rattle.model.specs.Answers.{Side, confidentiality, integrity}
 
 -- A name; the strongest party; the weakest; both of two terms; either of them; one side of a term.
 pub data Term : Type 0 where
@@ -95,10 +96,6 @@ termLength k = leb 1 k && leb k 64
 -- The term that a list of bytes is in a job of n names, or the refusal, 1 to 4.
 unfoldable pub readTerm : ℕ → List ℕ → Reading Term
 readTerm n cs = require (termLength (length cs)) 1 (allRead (readFront n cs))
-
--- Name i is a member of the coalition numbered c: c is the sum of 2^i over its members.
-unfoldable pub member : ℕ → ℕ → Bool
-member i c = eqb (c / 2 ^ i % 2) 1
 
 -- At coalition c the term is held on the side.
 unfoldable pub held : Term → Side → ℕ → Bool

@@ -2,10 +2,10 @@
 use mathlib.Core.Path.{_≡_}
 use mathlib.Core.List.{List}
 use Prim.Native.Nat.{ℕ, _+_}
-use Rattle.model.specs.Bytes.{accepted, refused}
-use Rattle.model.specs.Answers.{Answer, Refused}
+use Rattle.model.specs.Readings.{accepted, refused}
 use Rattle.model.specs.Terms.{Term, readTerm}
 use Rattle.model.specs.Ledgers.{Ledger, readLedger}
+use Rattle.model.specs.Answers.{Answer, Refused}
 use Rattle.model.specs.Questions.{ask}
 use Rattle.ledgers.specs.Readings.{LedgerOf}
 use Rattle.words.specs.AnyBytes.{termIn}

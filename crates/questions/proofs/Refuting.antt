@@ -5,12 +5,11 @@ use Prim.Native.Nat.{ℕ, _-_, _*_, _^_, _<_}
 use native.Mathlib.Omega.{arith}
 use lib.Bits.{bitAnd}
 use lib.Dec.{ltb}
-use Rattle.model.specs.Answers.{Side, confidentiality, integrity}
+use Rattle.model.specs.Sides.{Side, confidentiality, integrity}
+use Rattle.model.specs.Coalitions.{Marks, mark, packed}
 use Rattle.model.specs.Terms.{Term, held}
-use Rattle.model.specs.Grants.{Marks}
 use Rattle.model.specs.Ledgers.{Ledger}
 use Rattle.model.specs.Questions.{refutes, across, soundUnder, actsForUnder, flowsToUnder}
-use Rattle.model.specs.Extracts.{mark, packed}
 use Rattle.model.proofs.Bars.{lacks}
 use Rattle.model.proofs.Judge.{judge-cong}
 use Rattle.words.specs.Evaluation.{coalitionWord, jobOf, WordsAt}

@@ -5,12 +5,11 @@ use Prim.Native.Nat.{ℕ, _+_, _-_, _*_, _%_, _^_, _≤_, _<_}
 use native.Mathlib.Nat.{mod-eq-of-lt}
 use native.Mathlib.Decide.{ℕ-discrete}
 use native.Mathlib.Omega.{arith}
-use Rattle.model.specs.Answers as model
-use Rattle.model.specs.Answers.{Side, confidentiality, integrity, Answer, Yes, No}
-use Rattle.model.specs.Terms.{Term, member}
-use Rattle.model.specs.Grants.{Marks}
-use Rattle.model.specs.Questions.{Lowest, nowhere, at, lowest, refutes, ground, judge}
-use Rattle.model.specs.Extracts.{packed}
+use Rattle.model.specs.Sides.{Side, confidentiality, integrity}
+use Rattle.model.specs.Coalitions.{member, Marks, Lowest, nowhere, at, lowest, packed}
+use Rattle.model.specs.Terms.{Term}
+use Rattle.model.specs.Answers.{Answer, Yes, No}
+use Rattle.model.specs.Questions.{refutes, ground, judge}
 use Rattle.model.proofs.Packed.{own-bits}
 use Rattle.words.specs.Evaluation.{jobOf, wordsOf, WordsAt, LowestBit}
 use Rattle.words.proofs.Names.{count-few}

@@ -1,5 +1,6 @@
 -- What each case of a question and of an answer stands for in document 01, "Acts-for question" and "Flows-to question".
 -- Assumes nothing: these are definitions.
+use Rattle.model.specs.Sides.{confidentiality, integrity, Side as ModelSide}
 use Rattle.model.specs.Answers as model
 use Rattle.model.specs.Terms.{Term}
 use Rattle.model.specs.Ledgers.{Ledger}
@@ -12,9 +13,9 @@ use Rattle.questions.specs.declared.Question.{Question}
 use Rattle.questions.specs.declared.Question.the-variants.{ActsFor, FlowsTo}
 
 -- the see side is confidentiality, the change side integrity
-abbrev pub sideOf : Side → model.Side
-sideOf See = model.confidentiality
-sideOf Change = model.integrity
+abbrev pub sideOf : Side → ModelSide
+sideOf See = confidentiality
+sideOf Change = integrity
 
 -- yes; no, with the side and the coalition that refutes; or the refusal's number
 abbrev pub answerOf : Answer → model.Answer

@@ -5,11 +5,10 @@ use mathlib.Core.Bool.{Bool, false, not, _&&_}
 use Prim.Native.Nat.{ℕ, _+_, _*_, _^_, _<_}
 use lib.Dec.{ltb}
 use Rattle.model.specs.Answers as model
-use Rattle.model.specs.Answers.{Side, confidentiality, integrity}
+use Rattle.model.specs.Sides.{Side, confidentiality, integrity}
+use Rattle.model.specs.Coalitions.{Marks, Lowest, nowhere, at, lowest, mark, packed}
 use Rattle.model.specs.Terms.{Term, held}
-use Rattle.model.specs.Grants.{Marks}
-use Rattle.model.specs.Questions.{Lowest, nowhere, at, lowest, refutes, ground, judge, across}
-use Rattle.model.specs.Extracts.{mark, packed}
+use Rattle.model.specs.Questions.{refutes, ground, judge, across}
 use Rattle.words.specs.Evaluation.{jobOf, WordsAt}
 use Rattle.questions.specs.declared.Answer.{Answer}
 use Rattle.questions.specs.declared.Answer.the-variants.{Yes, No}

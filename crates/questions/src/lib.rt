@@ -5,7 +5,7 @@ use words::Words;
 ghost use mathlib.Core.Path.{_≡_};
 ghost use mathlib.Core.Bool.{Bool};
 ghost use Prim.Native.Nat.{ℕ, _+_, _*_, _<_};
-ghost use Rattle.model.specs.Grants.{Marks};
+ghost use Rattle.model.specs.Coalitions.{Marks};
 ghost use Rattle.model.specs.Questions.{ask, actsFor, flowsTo};
 ghost use Rattle.words.specs.AnyBytes.{termIn};
 ghost use Rattle.words.specs.Evaluation.{jobOf, WordsAt};

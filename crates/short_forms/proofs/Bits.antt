@@ -8,8 +8,7 @@ use native.Mathlib.Omega.{arith}
 use lib.Dec.{eqb}
 use lib.ListN.{length, length-append}
 use lib.Pow.{pow-mono, pow-pos, shr-shr, shr-le}
-use Rattle.model.specs.Terms.{member}
-use Rattle.model.specs.ShortForms.{those}
+use Rattle.model.specs.Coalitions.{member, those}
 use Rattle.model.proofs.Packed.{own-bits}
 use Rattle.model.proofs.Monotone.{member-le, member-past}
 use Rattle.model.proofs.Listed.{those-add, those-none, those-one}

@@ -6,9 +6,9 @@ use mathlib.Core.Logic.{_↔_}
 use Prim.Native.Nat.{ℕ, _-_, _*_, _/_, _%_, _^_, _≤_, _<_}
 use native.Mathlib.Omega.{arith}
 use borrow.Author.Tests.{eq-eqb, ne-eqb, not-true}
-use Rattle.model.specs.Answers.{Side}
-use Rattle.model.specs.Terms.{Term, NamesBelow, member, held}
-use Rattle.model.specs.Grants.{implies, every}
+use Rattle.model.specs.Sides.{Side}
+use Rattle.model.specs.Coalitions.{member, implies, every}
+use Rattle.model.specs.Terms.{Term, NamesBelow, held}
 use Rattle.model.specs.ShortForms.{minimal, listed}
 use Rattle.model.proofs.Truth.{and-intro, and-left, and-right, implies-elim, implies-intro, bool-ext}
 use Rattle.model.proofs.Search.{every-elim, every-intro}

@@ -11,10 +11,9 @@ use lib.Dec.{leb}
 use lib.ListN.{getD}
 use lib.Pow.{pow-mono, pow-add, pow-pos, low}
 use borrow.Author.Tests.{eqb-true, le-leb, lt-leb}
-use Rattle.model.specs.Answers.{confidentiality}
-use Rattle.model.specs.Terms.{Term, name, codes, NamesBelow, member, held}
-use Rattle.model.specs.Extracts.{packed}
-use Rattle.model.specs.Grants.{implies, every}
+use Rattle.model.specs.Sides.{confidentiality}
+use Rattle.model.specs.Coalitions.{member, packed, implies, every}
+use Rattle.model.specs.Terms.{Term, name, codes, NamesBelow, held}
 use Rattle.model.proofs.Truth.{clash, false-of}
 use Rattle.model.proofs.Packed.{packed-lt, own-bits}
 use Rattle.model.proofs.Monotone.{member-le}

@@ -8,11 +8,11 @@ use native.Mathlib.Omega.{arith}
 use lib.Bits.{bitAnd}
 use lib.ListN.{length, take, drop, length-append, take-append-drop}
 use lib.Seq.{length-take-le, drop-at}
+use Rattle.model.specs.Sides.{confidentiality, integrity}
 use Rattle.model.specs.Bytes.{bigEndian}
-use Rattle.model.specs.Answers.{confidentiality, integrity}
-use Rattle.model.specs.Terms.{Term, NamesBelow, member, held}
-use Rattle.model.specs.Extracts.{mark, packed}
-use Rattle.model.specs.ShortForms.{those, pairs, shortForm}
+use Rattle.model.specs.Coalitions.{member, mark, packed, those}
+use Rattle.model.specs.Terms.{Term, NamesBelow, held}
+use Rattle.model.specs.ShortForms.{pairs, shortForm}
 use Rattle.model.proofs.Listed.{those-add, those-cong, those-marks, length-marks, pairs-append, length-pairs, length-counted}
 use Rattle.model.proofs.Packed.{member-packed}
 use Rattle.words.specs.Evaluation.{LowestBit, Tabled, coalitionWord, wordsOf}

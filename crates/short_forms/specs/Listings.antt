@@ -6,11 +6,11 @@ use mathlib.Core.List.{List, _++_}
 use Prim.Native.Nat.{ℕ, _-_, _/_, _%_, _^_}
 use lib.ListN.{length, getD, drop}
 use Rattle.model.specs.Bytes.{bigEndian}
+use Rattle.model.specs.Coalitions.{member, implies, every, those}
+use Rattle.model.specs.Terms.{Term, codes, NamesBelow, held}
 use Rattle.model.specs.Answers.{Answer, Outcome}
+use Rattle.model.specs.ShortForms.{pairs, shortForm}
 use Rattle.model.specs.Answers as answers
-use Rattle.model.specs.Terms.{Term, codes, NamesBelow, member, held}
-use Rattle.model.specs.Grants.{implies, every}
-use Rattle.model.specs.ShortForms.{those, pairs, shortForm}
 use Rattle.short_forms.specs.declared.ShortForm.{ShortForm}
 use Rattle.short_forms.specs.declared.ShortForm.the-variants.{Written, Refused}
 

@@ -4,7 +4,7 @@ ghost use mathlib.Core.Path.{_≡_};
 ghost use Prim.Native.Nat.{_+_, _*_, _^_, _≤_, _<_};
 ghost use lib.ListN.{length};
 ghost use Rattle.model.specs.Bytes.{bigEndian};
-ghost use Rattle.model.specs.Extracts.{packed};
+ghost use Rattle.model.specs.Coalitions.{packed};
 ghost use Rattle.model.specs.ShortForms.{pairs, shorten};
 ghost use Rattle.words.specs.Evaluation.{wordsOf};
 ghost use Rattle.short_forms.specs.Listings.{outcomeOf, marked, markedWithout, irredundant, bitsOf, listing, FrontWritten, ShortWritten};

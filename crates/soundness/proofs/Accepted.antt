@@ -6,10 +6,11 @@ use Prim.Native.Nat.{ℕ, zero, suc, _≤_, _<_}
 use native.Mathlib.Omega.{arith}
 use lib.ListN.{length, take, getD}
 use lib.Seq.{take-all}
-use Rattle.model.specs.Answers.{Side}
-use Rattle.model.specs.Bytes.{accepted}
-use Rattle.model.specs.Terms.{Term, top, readTerm, member}
-use Rattle.model.specs.Grants.{Grant, implies, every, keeps, counts, chosen, sound}
+use Rattle.model.specs.Sides.{Side}
+use Rattle.model.specs.Readings.{accepted}
+use Rattle.model.specs.Coalitions.{member, implies, every}
+use Rattle.model.specs.Terms.{Term, top, readTerm}
+use Rattle.model.specs.Grants.{Grant, keeps, counts, chosen, sound}
 use Rattle.model.specs.Ledgers.{Ledger, readLedger}
 use Rattle.model.specs.Questions.{soundUnder}
 use Rattle.model.specs.Meanings.{grantBits}

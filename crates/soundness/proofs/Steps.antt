@@ -8,10 +8,10 @@ use native.Mathlib.Omega.{arith}
 use lib.Bits.{bitAnd, bitOr, or-add-and, and-le-l, and-le-r}
 use lib.Pow.{shr-shr}
 use borrow.Author.Tests.{eq-eqb, ne-eqb}
-use Rattle.model.specs.Answers.{Side, confidentiality, integrity}
-use Rattle.model.specs.Terms.{member, held}
-use Rattle.model.specs.Grants.{Grant, Marks, implies, every, keeps}
-use Rattle.model.specs.Extracts.{packed}
+use Rattle.model.specs.Sides.{Side, confidentiality, integrity}
+use Rattle.model.specs.Coalitions.{member, Marks, implies, every, packed}
+use Rattle.model.specs.Terms.{held}
+use Rattle.model.specs.Grants.{Grant, keeps}
 use Rattle.model.proofs.Truth.{clash, false-of}
 use Rattle.model.proofs.Search.{every-elim, every-intro}
 use Rattle.words.specs.AnyBytes.{grantIn}

@@ -1,8 +1,8 @@
 -- Which coalitions keep the grants whose bits are set, on any bytes (document 01, "Grants that count"). Assumes nothing: these are definitions.
 use mathlib.Core.List.{List}
 use Prim.Native.Nat.{ℕ}
-use Rattle.model.specs.Terms.{member}
-use Rattle.model.specs.Grants.{Marks, implies, every, keeps}
+use Rattle.model.specs.Coalitions.{member, Marks, implies, every}
+use Rattle.model.specs.Grants.{keeps}
 use Rattle.words.specs.AnyBytes.{grantIn}
 
 -- of the first `grants` grants, each whose bit is set is kept

@@ -1,8 +1,8 @@
 // Which coalitions keep the grants whose bits are set: the sound ones, where these are the grants that count (document 01, "Grants that count").
 use words::Words;
 ghost use mathlib.Core.Bool.{_&&_};
-ghost use Rattle.model.specs.Grants.{Marks, keeps};
-ghost use Rattle.model.specs.Extracts.{mark};
+ghost use Rattle.model.specs.Coalitions.{Marks, mark};
+ghost use Rattle.model.specs.Grants.{keeps};
 ghost use Rattle.words.specs.AnyBytes.{grantIn};
 ghost use Rattle.words.specs.Evaluation.{WordsAt};
 ghost use Rattle.soundness.specs.Keeping.{soundIn};

@@ -3,7 +3,7 @@
 use Prim.Native.Nat.{ℕ, _-_}
 use mathlib.Core.List.{List}
 use lib.ListN.{length, drop}
-use Rattle.model.specs.Bytes.{Reading, accepted, refused}
+use Rattle.model.specs.Readings.{Reading, accepted, refused}
 use Rattle.model.specs.Terms.{Term, Code, whole, one, two, none, Front, found, stopped, readFront}
 use Rattle.terms.specs.declared.Shape.{Shape}
 use Rattle.terms.specs.declared.Shape.the-variants.{Whole, One, Two, NoCode}

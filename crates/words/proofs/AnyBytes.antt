@@ -5,7 +5,7 @@ use Prim.Native.Nat.{ℕ, zero, suc, _≤_, _<_}
 use native.Mathlib.Omega.{arith}
 use lib.ListN.{length, drop, getD, length-append, length-drop}
 use lib.Seq.{drop-append-seam}
-use Rattle.model.specs.Bytes.{accepted}
+use Rattle.model.specs.Readings.{accepted}
 use Rattle.model.specs.Terms.{Term, name, top, bottom, conj, disj, project, projectCode, Code, whole, one, two, none, codeOf, codes, NamesBelow, readTerm}
 use Rattle.model.specs.Grants.{Grant}
 use Rattle.model.specs.Ledgers.{Ledger, readLedger}

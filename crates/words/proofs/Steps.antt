@@ -9,9 +9,9 @@ use borrow.Author.Tests.{le-ltb, ne-eqb}
 use lib.Bits.{bitAnd, bitOr}
 use lib.ListN.{length, drop, getD, drop-of-length-le}
 use lib.Seq.{drop-cons, drop-drop}
-use Rattle.model.specs.Answers.{Side, confidentiality, integrity}
-use Rattle.model.specs.Terms.{Term, name, top, bottom, conj, disj, project, Code, whole, one, two, none, codeOf, member, held}
-use Rattle.model.specs.Extracts.{packed}
+use Rattle.model.specs.Sides.{Side, confidentiality, integrity}
+use Rattle.model.specs.Coalitions.{member, packed}
+use Rattle.model.specs.Terms.{Term, name, top, bottom, conj, disj, project, Code, whole, one, two, none, codeOf, held}
 use Rattle.model.proofs.Reading.{code-name}
 use Rattle.words.specs.AnyBytes.{Taken, takeParts, taken, termIn}
 use Rattle.words.specs.Evaluation.{heldWord, WordsAt, Evaluated}

@@ -5,10 +5,9 @@ use mathlib.Core.List.{List}
 use Prim.Native.Nat.{ℕ, _+_, _-_, _*_, _^_, _≤_, _<_, min}
 use lib.Dec.{ltb}
 use lib.ListN.{length, drop, getD}
-use Rattle.model.specs.Answers.{Side, confidentiality, integrity}
+use Rattle.model.specs.Sides.{Side, confidentiality, integrity}
+use Rattle.model.specs.Coalitions.{Marks, mark, packed}
 use Rattle.model.specs.Terms.{Term, held}
-use Rattle.model.specs.Grants.{Marks}
-use Rattle.model.specs.Extracts.{mark, packed}
 use Rattle.words.specs.AnyBytes.{taken, termIn}
 
 -- word w of a term on a side

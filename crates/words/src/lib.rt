@@ -1,9 +1,8 @@
 // Terms held at 64 coalitions at once (document 01, "Terms"): bit j of word w is coalition 64 * w + j.
 ghost use mathlib.Core.Path.{_≡_};
 ghost use Prim.Native.Nat.{_*_, _<_};
-ghost use Rattle.model.specs.Answers.{confidentiality, integrity};
-ghost use Rattle.model.specs.Terms.{member};
-ghost use Rattle.model.specs.Extracts.{packed};
+ghost use Rattle.model.specs.Sides.{confidentiality, integrity};
+ghost use Rattle.model.specs.Coalitions.{member, packed};
 ghost use Rattle.words.specs.AnyBytes.{termIn};
 ghost use Rattle.words.specs.Evaluation.{coalitionWord, wordsOf, Evaluated, EvaluatedTo, LowestBit};
 

@@ -3,7 +3,7 @@
 use Prim.Native.Nat.{_*_, _-_, _≤_, _<_}
 use native.Mathlib.Omega.{arith}
 use mathlib.Core.Path.{_≡_, sym, _∙_, subst}
-use Rattle.model.specs.Extracts.{mark, packed}
+use Rattle.model.specs.Coalitions.{mark, packed}
 use Rattle.model.proofs.Bars.{barsActing, static-bars}
 use Rattle.words.specs.AnyBytes.{termIn}
 use Rattle.words.specs.Evaluation.{jobOf, wordsOf, ClearTo}

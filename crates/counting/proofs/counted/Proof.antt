@@ -4,7 +4,7 @@ use native.Mathlib.Omega.{arith}
 use mathlib.Core.Path.{_≡_, _∙_}
 use borrow.Author.Needs.{needs}
 use borrow.Author.Tests.{lt-ltb, le-ltb}
-use Rattle.model.specs.Extracts.{packed}
+use Rattle.model.specs.Coalitions.{packed}
 use Rattle.words.specs.AnyBytes.{termIn, grantIn}
 use Rattle.words.proofs.Names.{words-few}
 use Rattle.counting.specs.Counted.{countsIn, countedIn}

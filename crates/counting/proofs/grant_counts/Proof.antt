@@ -3,10 +3,10 @@ use Prim.Native.Nat.{_*_, _-_, _≤_, _<_}
 use native.Mathlib.Omega.{arith}
 use mathlib.Core.Path.{_≡_, sym, _∙_, subst}
 use lib.ListN.{getD}
-use Rattle.model.specs.Answers.{integrity}
+use Rattle.model.specs.Sides.{integrity}
+use Rattle.model.specs.Coalitions.{mark, packed}
 use Rattle.model.specs.Terms.{Term, held}
 use Rattle.model.specs.Grants.{Grant}
-use Rattle.model.specs.Extracts.{mark, packed}
 use Rattle.model.proofs.Bars.{barsCounting, counts-bars}
 use Rattle.words.specs.Evaluation.{jobOf, wordsOf, ClearTo, WordsAt}
 use Rattle.words.proofs.Names.{words-few, mask-few, count-few}

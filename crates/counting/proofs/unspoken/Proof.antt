@@ -1,5 +1,5 @@
 -- `counting::unspoken` meets its contract. Assumes nothing.
-use Rattle.model.specs.Answers.{integrity}
+use Rattle.model.specs.Sides.{integrity}
 use Rattle.model.specs.Grants.{voice}
 use Rattle.words.specs.AnyBytes.{termIn}
 use Rattle.counting.proofs.Tests.{voice-word, none-lacks}

@@ -1,7 +1,7 @@
 -- `derivations::bit_set` meets its contract: a word has 64 marks. Assumes nothing.
 use native.Mathlib.Omega.{arith}
 use mathlib.Core.Path.{refl, sym}
-use Rattle.model.specs.Terms.{member}
+use Rattle.model.specs.Coalitions.{member}
 use Rattle.model.proofs.Prefixes.{word-past}
 use borrow.Author.Needs.{needs}
 use Rattle.derivations.proofs.bit_set.Statement.{statement}

@@ -5,11 +5,11 @@ use native.Mathlib.Omega.{arith}
 use mathlib.Core.Bool.{Bool}
 use mathlib.Core.Path.{_≡_, sym, ap, _∙_}
 use borrow.Author.Needs.{needs}
-use Rattle.model.specs.Answers.{RefusedAt}
 use Rattle.model.specs.Grants.{Grant}
 use Rattle.model.specs.Ledgers.{Ledger}
-use Rattle.model.specs.Meanings.{grantBits}
+use Rattle.model.specs.Answers.{RefusedAt}
 use Rattle.model.specs.Derivations.{checkSteps, stepCount}
+use Rattle.model.specs.Meanings.{grantBits}
 use Rattle.ledgers.specs.Readings.{LedgerOf}
 use Rattle.derivations.specs.Steps.{stepRefusal}
 use Rattle.derivations.specs.declared.StepCheck.{StepCheck}

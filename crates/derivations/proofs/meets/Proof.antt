@@ -2,8 +2,8 @@
 use native.Mathlib.Omega.{arith}
 use mathlib.Core.Path.{_≡_, refl, ap, _∙_}
 use mathlib.Core.Bool.{Bool}
+use Rattle.model.specs.Sides.{confidentiality, integrity}
 use Rattle.model.specs.Bytes.{byte}
-use Rattle.model.specs.Answers.{confidentiality, integrity}
 use Rattle.model.specs.Ledgers.{Ledger}
 use Rattle.model.specs.Derivations.{Rule, static, granted, transitive, conjunction, disjunction, projection, noRule, ruleOf, meets}
 use Rattle.derivations.specs.Steps.{meetsAt}

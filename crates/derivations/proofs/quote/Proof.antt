@@ -8,8 +8,8 @@ use lib.ListN.{length}
 use types.Run
 use denote.Enum.Declared
 use borrow.Author.Tests.{eq-eqb, ne-eqb, lt-ltb, le-ltb}
-use Rattle.model.specs.Derivations.{checkDerivation, ifAccepted}
 use Rattle.model.specs.Answers.{Yes}
+use Rattle.model.specs.Derivations.{checkDerivation, ifAccepted}
 use Rattle.model.proofs.Blocks.{length-field}
 use Rattle.derivations.specs.Answers.{answerOf}
 use Rattle.derivations.specs.declared.Checked.the-variants.{Accepted, Refused, RefusedAt}

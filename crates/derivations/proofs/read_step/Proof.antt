@@ -3,7 +3,8 @@ use mathlib.Core.Path.{_≡_, sym, _∙_}
 use mathlib.Core.Bool.{Bool}
 use borrow.Author.Tests.{not-true, not-false}
 use Rattle.model.specs.Bytes.{byte}
-use Rattle.model.specs.Derivations.{ruleOf, stepForm, readLeft, readRight, isAccepted}
+use Rattle.model.specs.Readings.{isAccepted}
+use Rattle.model.specs.Derivations.{ruleOf, stepForm, readLeft, readRight}
 use Rattle.terms.specs.declared.TermReading.{TermReading}
 use Rattle.derivations.specs.Steps.{readStep}
 use Rattle.derivations.proofs.Checking.{told, left-told, right-told}

@@ -6,7 +6,7 @@ use mathlib.Core.List.{List}
 use lib.ListN.{length}
 use lib.Seq.{paste}
 use borrow.Author.Needs.{needs}
-use Rattle.model.specs.Grants.{Marks}
+use Rattle.model.specs.Coalitions.{Marks}
 use Rattle.model.specs.Questions.{soundUnder}
 use Rattle.model.specs.Extracts.{table}
 use Rattle.model.proofs.Table.{table-cong}

@@ -4,8 +4,8 @@ use native.Mathlib.Omega.{arith}
 use mathlib.Core.Path.{_≡_, ap}
 use lib.ListN.{length}
 use borrow.Author.Needs.{needs}
-use Rattle.model.specs.Answers.{confidentiality, integrity}
-use Rattle.model.specs.Extracts.{mark}
+use Rattle.model.specs.Sides.{confidentiality, integrity}
+use Rattle.model.specs.Coalitions.{mark}
 use Rattle.words.proofs.Names.{words-few}
 use Rattle.soundness.specs.Keeping.{soundIn}
 use Rattle.extracts.proofs.Filling.{Filled, filled-start, filled-end, turn-length, turn-half}

@@ -1,5 +1,5 @@
 -- `questions::further` meets its contract. Assumes nothing.
-use Rattle.model.specs.Answers.{confidentiality}
+use Rattle.model.specs.Sides.{confidentiality}
 use Rattle.questions.proofs.Searching.{further-see, further-change, further-none, see-still}
 use borrow.Author.Needs.{needs}
 use Rattle.questions.proofs.further.Statement.{statement}

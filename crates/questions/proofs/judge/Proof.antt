@@ -3,9 +3,8 @@
 use Prim.Native.Nat.{_*_, _-_, _≤_, _<_}
 use native.Mathlib.Omega.{arith}
 use mathlib.Core.Path.{_≡_, ap, _∙_}
-use Rattle.model.specs.Answers.{confidentiality}
-use Rattle.model.specs.Grants.{Marks}
-use Rattle.model.specs.Questions.{nowhere, lowest}
+use Rattle.model.specs.Sides.{confidentiality}
+use Rattle.model.specs.Coalitions.{Marks, nowhere, lowest}
 use Rattle.words.specs.AnyBytes.{termIn}
 use Rattle.words.specs.Evaluation.{wordsOf}
 use Rattle.words.proofs.Names.{words-few}

@@ -4,7 +4,7 @@ use Prim.Native.Nat.{ℕ, _-_, _*_, _^_, _≤_}
 use native.Mathlib.Omega.{arith}
 use lib.Bits.{bitAnd}
 use borrow.Author.Needs.{needs}
-use Rattle.model.specs.Extracts.{packed}
+use Rattle.model.specs.Coalitions.{packed}
 use Rattle.short_forms.specs.Listings.{marked, irredundant}
 use Rattle.short_forms.proofs.Reduced.{marked-word, reduced-none, reduced-more, reduced-empty}
 use Rattle.short_forms.proofs.minimal_word.Statement.{statement}

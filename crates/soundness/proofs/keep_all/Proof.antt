@@ -4,7 +4,7 @@ use Prim.Native.Nat.{_+_, _-_, _/_, _≤_}
 use native.Mathlib.Omega.{arith}
 use mathlib.Core.Path.{_≡_, sym, subst}
 use mathlib.Core.Logic.{⊎-elim}
-use Rattle.model.specs.Grants.{Marks}
+use Rattle.model.specs.Coalitions.{Marks}
 use Rattle.words.specs.Evaluation.{WordsAt}
 use Rattle.words.specs.declared.Words.{Words}
 use Rattle.soundness.proofs.Steps.{SoFar, so-far-none, so-far-empty, so-far-keep, so-far-skip}

@@ -1,7 +1,7 @@
 -- `soundness::sound_word` meets its contract. Assumes nothing.
 use Prim.Native.Nat.{_^_}
 use lib.Dec.{ltb}
-use Rattle.model.specs.Extracts.{mark}
+use Rattle.model.specs.Coalitions.{mark}
 use borrow.Author.Needs.{needs}
 use Rattle.soundness.proofs.sound_word.Statement.{statement}
 use Rattle.soundness.proofs.sound_word.Tie as tie

@@ -6,7 +6,7 @@ use lib.Bits.{bitAnd, bitOr}
 use Rattle.model.specs.Sides.{confidentiality, integrity}
 use Rattle.model.specs.Coalitions.{mark, packed}
 use Rattle.model.specs.Terms.{Term, held}
-use Rattle.model.specs.Grants.{Grant, voice}
+use Rattle.model.specs.Grants.{Grant, marksOf, voice}
 use Rattle.model.proofs.Bars.{lacks, barsCounting, barsActing}
 use Rattle.words.specs.Evaluation.{heldWord, coalitionWord, WordsAt}
 use Rattle.words.proofs.Packing.{packed-and, packed-or, packed-lacks, packed-zero}
@@ -14,11 +14,11 @@ use Rattle.words.proofs.Searches.{packed-mark}
 
 -- those of a word that don't hold the voice of q, from the words of q
 pub voice-word : (q : Term) (f : ℕ → Bool) (w x qs qc : ℕ) → x ≡ packed f (64 * w) 64 → WordsAt (held q) w qs qc
-    → bitAnd x (0xFFFF_FFFF_FFFF_FFFF - bitAnd qs qc) ≡ packed (lacks f (voice q integrity)) (64 * w) 64
+    → bitAnd x (0xFFFF_FFFF_FFFF_FFFF - bitAnd qs qc) ≡ packed (lacks f (voice (held q) integrity)) (64 * w) 64
 unfolding voice
 voice-word q f w x qs qc e h =
     rw (e, h .see-word, h .change-word)
-    (rw (packed-and (held q confidentiality) (held q integrity) (64 * w) 64) (packed-lacks f (voice q integrity) (64 * w)))
+    (rw (packed-and (held q confidentiality) (held q integrity) (64 * w) 64) (packed-lacks f (voice (held q) integrity) (64 * w)))
 
 -- and of a word that is 0
 pub none-lacks : (f g : ℕ → Bool) (i x : ℕ) → x ≡ packed f i 64 → x ≡ 0 → 0 ≡ packed (lacks f g) i 64
@@ -31,8 +31,8 @@ barredWord mask ls lc ds dc us = bitAnd mask (bitOr (bitOr (bitAnd ls (0xFFFF_FF
 
 pub counting-word : (n : ℕ) (L : Term) (g : Grant) (w mask ls lc ds dc us : ℕ) → mask ≡ coalitionWord n w
     → ls ≡ heldWord L confidentiality w → lc ≡ heldWord L integrity w → WordsAt (held (g .label)) w ds dc
-    → us ≡ packed (lacks (held (g .label) integrity) (voice (g .q) integrity)) (64 * w) 64
-    → barredWord mask ls lc ds dc us ≡ packed (mark n (barsCounting L g)) (64 * w) 64
+    → us ≡ packed (lacks (held (g .label) integrity) (voice (held (g .q)) integrity)) (64 * w) 64
+    → barredWord mask ls lc ds dc us ≡ packed (mark n (barsCounting (held L) (marksOf g))) (64 * w) 64
 unfolding barsCounting
 counting-word n L g w mask ls lc ds dc us m a b d u =
     let i = 64 * w in
@@ -41,8 +41,8 @@ counting-word n L g w mask ls lc ds dc us m a b d u =
     rw (m, a, b, d .see-word, d .change-word, u)
     (rw (packed-lacks (see L) (see (g .label)) i, packed-lacks (change (g .label)) (change L) i)
     (rw (packed-or (lacks (see L) (see (g .label))) (lacks (change (g .label)) (change L)) i 64)
-    (rw (packed-or (λ c. lacks (see L) (see (g .label)) c || lacks (change (g .label)) (change L) c) (lacks (change (g .label)) (voice (g .q) integrity)) i 64)
-    (packed-mark n (barsCounting L g) w))))
+    (rw (packed-or (λ c. lacks (see L) (see (g .label)) c || lacks (change (g .label)) (change L) c) (lacks (change (g .label)) (voice (held (g .q)) integrity)) i 64)
+    (packed-mark n (barsCounting (held L) (marksOf g)) w))))
 
 -- of the coalitions of the mask, those that hold p and not q on a side
 abbrev pub actingWord : (mask ps pc qs qc : ℕ) → ℕ

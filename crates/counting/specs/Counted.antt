@@ -4,19 +4,16 @@ use mathlib.Core.Bool.{Bool, cond, _&&_}
 use mathlib.Core.List.{List}
 use Prim.Native.Nat.{ℕ}
 use lib.Dec.{ltb}
-use lib.ListN.{length}
 use Rattle.model.specs.Sides.{confidentiality, integrity}
-use Rattle.model.specs.Readings.{accepted}
 use Rattle.model.specs.Coalitions.{packed}
 use Rattle.model.specs.Terms.{Term}
-use Rattle.model.specs.Grants.{Grant, counts}
-use Rattle.model.specs.Ledgers.{Ledger, readLedger}
+use Rattle.model.specs.Grants.{Grant, under, countsUnder}
 use Rattle.words.specs.AnyBytes.{termIn, grantIn}
 use Rattle.words.specs.Evaluation.{jobOf, wordsOf, Tabled}
 
 -- there is a grant k, and it counts under the label
 abbrev pub countsIn : List ℕ → ℕ → ℕ → List ℕ → ℕ → Bool
-countsIn ledger n grants label k = ltb k grants && counts (jobOf n) (termIn label) (grantIn ledger k)
+countsIn ledger n grants label k = ltb k grants && countsUnder (under (jobOf n) (termIn label)) (grantIn ledger k)
 
 -- bit k is set exactly if grant k counts; no ledger has more grants than 64
 unfoldable pub countedIn : List ℕ → ℕ → ℕ → List ℕ → ℕ

@@ -4,15 +4,15 @@ ghost use mathlib.Core.Bool.{Bool, not, _&&_};
 ghost use Prim.Native.Nat.{ℕ, _*_};
 ghost use Rattle.model.specs.Sides.{integrity};
 ghost use Rattle.model.specs.Coalitions.{packed};
-ghost use Rattle.model.specs.Terms.{Term};
-ghost use Rattle.model.specs.Grants.{Grant, actsStatically, voice, counts};
+ghost use Rattle.model.specs.Terms.{Term, held};
+ghost use Rattle.model.specs.Grants.{Grant, under, actsStatically, voice, countsUnder};
 ghost use Rattle.words.specs.AnyBytes.{termIn};
 ghost use Rattle.words.specs.Evaluation.{jobOf};
 ghost use Rattle.counting.specs.Counted.{countedIn, GrantGiven};
 
 // Those of a word that don't hold the voice of q. Where the word is 0 there is no need of q.
 fn unspoken(q: &[u8], w: u64, change: u64) -> u64
-    ensures { λ r. ⌜ ((f : ℕ → Bool) → change ≡ packed f (64 * w) 64 → r ≡ packed (λ c. f c && not (voice (termIn (now (q .entry))) integrity c)) (64 * w) 64) ⌝ }
+    ensures { λ r. ⌜ ((f : ℕ → Bool) → change ≡ packed f (64 * w) 64 → r ≡ packed (λ c. f c && not (voice (held (termIn (now (q .entry)))) integrity c)) (64 * w) 64) ⌝ }
 {
     if change == 0 {
         return 0;
@@ -23,7 +23,7 @@ fn unspoken(q: &[u8], w: u64, change: u64) -> u64
 
 // The grant of what q may do, labelled d, counts under the label whose words these are: it is visible and spoken.
 fn grant_counts(see: &[u64; 64], change: &[u64; 64], n: u64, q: &[u8], d: &[u8]) -> bool
-    ensures { λ r. ⌜ ((L : Term) (g : Grant) → GrantGiven n (now (see .entry)) (now (change .entry)) (now (q .entry)) (now (d .entry)) L g → r ≡ counts (jobOf n) L g) ⌝ }
+    ensures { λ r. ⌜ ((L : Term) (g : Grant) → GrantGiven n (now (see .entry)) (now (change .entry)) (now (q .entry)) (now (d .entry)) L g → r ≡ countsUnder (under (jobOf n) L) g) ⌝ }
 {
     let words = words::word_count(n);
     let mut w: u64 = 0;

@@ -6,8 +6,8 @@ use native.Mathlib.Omega.{arith}
 use Rattle.model.specs.Sides.{confidentiality, integrity}
 use Rattle.model.specs.Readings.{accepted}
 use Rattle.model.specs.Terms.{Term, name, top, bottom, conj, disj, project, codes, NamesBelow, readTerm}
+use Rattle.model.specs.Meanings.{AllBelow}
 use Rattle.model.proofs.Reading.{accepted-codes}
-use Rattle.demands.specs.Extracts.{AllBelow}
 
 below-append : (k : ℕ) (l r : List ℕ) → AllBelow k l → AllBelow k r → AllBelow k (l ++ r)
 unfolding AllBelow

@@ -10,7 +10,7 @@ use lib.ListN.{length}
 use Rattle.model.specs.Sides.{Side, confidentiality, integrity}
 use Rattle.model.specs.Coalitions.{implies}
 use Rattle.model.specs.Terms.{Term, name, top, bottom, conj, disj, project, NamesBelow, held}
-use Rattle.model.specs.Grants.{Grant, sound}
+use Rattle.model.specs.Grants.{Grant, sound, soundOf}
 use Rattle.demands.specs.Algebra.{ActsFor, botR, topL, self, proj, projR, conjL₁, conjL₂, conjR, disjL, disjR₁, disjR₂, then, conj-project, disj-project, crossed, grant, GrantsBelow, Carries}
 use Rattle.model.proofs.Truth.{and-left, and-right, or-elim}
 use Rattle.demands.proofs.Principals.{twice, by-sides, cut}
@@ -104,10 +104,10 @@ record Broken (G : List Grant) (s : Side) (c : ℕ) : Type 0 where
   fails : held (broken .q) s c ≡ false
 
 -- where a coalition is not sound, it breaks a grant
-unsound : (G : List Grant) (s : Side) (c : ℕ) → sound G s c ≡ false → Broken G s c
+unsound : (G : List Grant) (s : Side) (c : ℕ) → soundOf G s c ≡ false → Broken G s c
 unfolding sound
 unsound [] s c h = absurd (true≢false h)
-unsound (g ∷ G) s c h = elim (and-false (implies (held (g .p) s c) (held (g .q) s c)) (sound G s c) h) [
+unsound (g ∷ G) s c h = elim (and-false (implies (held (g .p) s c) (held (g .q) s c)) (soundOf G s c) h) [
   | inl e ↦ let f = implies-false (held (g .p) s c) (held (g .q) s c) e in
       record { broken = g; among = List·Memᴰ·head refl; holds = f .0; fails = f .1 }
   | inr e ↦ let b = unsound G s c e in
@@ -117,7 +117,7 @@ unsound (g ∷ G) s c h = elim (and-false (implies (held (g .p) s c) (held (g .q
 module _ (n : ℕ) (G : List Grant) (fit : GrantsBelow n G) (s : Side) (p q : Term) (pn : NamesBelow n p) (qn : NamesBelow n q) (says : Carries n G s p q) where
   -- all names are decided
   leaf : (bs : List Bool) → length bs ≡ n → ActsFor G (conj (project s (members 0 bs)) (project s p)) (disj (project s (absent 0 bs)) (project s q))
-  leaf bs e = by (held p s (coalition bs)) refl (sound G s (coalition bs)) refl
+  leaf bs e = by (held p s (coalition bs)) refl (soundOf G s (coalition bs)) refl
     where
       fits : (t : Term) → NamesBelow n t → NamesBelow (length bs) t
       fits t l = rw e l
@@ -128,7 +128,7 @@ module _ (n : ℕ) (G : List Grant) (fit : GrantsBelow n G) (s : Side) (p q : Te
           (then (proj s (grant (b .among)))
           (absent-acted bs s (b .broken .q) (fits (b .broken .q) (fit (b .broken) (b .among) .1)) (b .fails)))
 
-      by : (x : Bool) → held p s (coalition bs) ≡ x → (y : Bool) → sound G s (coalition bs) ≡ y
+      by : (x : Bool) → held p s (coalition bs) ≡ x → (y : Bool) → soundOf G s (coalition bs) ≡ y
           → ActsFor G (conj (project s (members 0 bs)) (project s p)) (disj (project s (absent 0 bs)) (project s q))
       by false h y k = conjL₂ (disjR₁ (absent-acted bs s p (fits p pn) h))
       by true h true k = conjL₁ (disjR₂ (members-act bs s q (fits q qn) (says (coalition bs) (rw e at (coalition-below bs)) k h)))

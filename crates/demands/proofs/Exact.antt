@@ -7,7 +7,7 @@ use Prim.Native.Nat.{ℕ}
 use Rattle.model.specs.Sides.{Side, confidentiality, integrity}
 use Rattle.model.specs.Coalitions.{within}
 use Rattle.model.specs.Terms.{Term, conj, project, NamesBelow, held}
-use Rattle.model.specs.Grants.{Grant, actsStatically, visible, spoken, voice, counting, sound, counts}
+use Rattle.model.specs.Grants.{Under, countsUnder, Grant, actsStatically, visible, spoken, voice, counting, sound}
 use Rattle.model.specs.Ledgers.{Ledger}
 use Rattle.model.specs.Answers.{Yes}
 use Rattle.model.specs.Questions.{soundUnder, flowsToUnder, actsFor, flowsTo}
@@ -69,26 +69,26 @@ pub visible-flows : VisibleIsFlowsTo
 unfolding visible
 visible-flows n L d Ln dn = Iff·trans (there, back) (Iff·symm (flows-to n [] d L (none-below n) dn Ln))
   where
-    there : visible n L d ≡ true → Carries n [] confidentiality L d × Carries n [] integrity d L
+    there : visible n (held L) (held d) ≡ true → Carries n [] confidentiality L d × Carries n [] integrity d L
     there e = (
       within-carries n confidentiality L d .0 (and-left (within n (held L confidentiality) (held d confidentiality)) (within n (held d integrity) (held L integrity)) e),
       within-carries n integrity d L .0 (and-right (within n (held L confidentiality) (held d confidentiality)) (within n (held d integrity) (held L integrity)) e),
     )
 
-    back : Carries n [] confidentiality L d × Carries n [] integrity d L → visible n L d ≡ true
+    back : Carries n [] confidentiality L d × Carries n [] integrity d L → visible n (held L) (held d) ≡ true
     back f = and-intro (within-carries n confidentiality L d .1 (f .0)) (within-carries n integrity d L .1 (f .1))
 
 -- spoken, as acts-for: on the change side the label's d acts for the voice, and on the see side there is nothing to show
-spoken-carries : (n : ℕ) (q d : Term) → (spoken n q d ≡ true) ↔ ((s : Side) → Carries n [] s (project integrity d) (voiceOf q))
+spoken-carries : (n : ℕ) (q d : Term) → (spoken n (held q) (held d) ≡ true) ↔ ((s : Side) → Carries n [] s (project integrity d) (voiceOf q))
 unfolding spoken held sound voice
 spoken-carries n q d = (there, back)
   where
-    there : spoken n q d ≡ true → (s : Side) → Carries n [] s (project integrity d) (voiceOf q)
+    there : spoken n (held q) (held d) ≡ true → (s : Side) → Carries n [] s (project integrity d) (voiceOf q)
     there e confidentiality c l good h = voice-held confidentiality q c
-    there e integrity c l good h = rw voice-held (within-says n (held d integrity) (voice q integrity) .0 e c l h)
+    there e integrity c l good h = rw voice-held (within-says n (held d integrity) (voice (held q) integrity) .0 e c l h)
 
-    back : ((s : Side) → Carries n [] s (project integrity d) (voiceOf q)) → spoken n q d ≡ true
-    back f = within-says n (held d integrity) (voice q integrity) .1 (λ c l h. rw voice-held at (f integrity c l refl h))
+    back : ((s : Side) → Carries n [] s (project integrity d) (voiceOf q)) → spoken n (held q) (held d) ≡ true
+    back f = within-says n (held d integrity) (voice (held q) integrity) .1 (λ c l h. rw voice-held at (f integrity c l refl h))
 
 pub spoken-voice : SpokenIsActsForVoice
 unfolding voiceOf NamesBelow
@@ -97,37 +97,37 @@ spoken-voice n q d qn dn =
     (Iff·symm (acts-for n [] (project integrity d) (voiceOf q) (none-below n) dn (side-names n confidentiality q qn, side-names n integrity q qn)))
 
 -- the grants that count are among the grants
-pub counting-below : (n : ℕ) (L : Term) (gs : List Grant) → GrantsBelow n gs → GrantsBelow n (counting n L gs)
-counting-below n L gs fit g m = fit g (chosen-elim (counts n L) gs g m .0)
+pub counting-below : (n : ℕ) (u : Under) (gs : List Grant) → GrantsBelow n gs → GrantsBelow n (counting u gs)
+counting-below n u gs fit g m = fit g (chosen-elim (countsUnder u) gs g m .0)
 
 -- of a question's accepted inputs, every name is below n
-pub record NamesFit (l : Ledger) (L p q : Term) : Type 0 where
-  pub grants-fit : GrantsBelow (l .names) (counting (l .names) L (l .grants))
+pub record NamesFit (l : Ledger) (u : Under) (p q : Term) : Type 0 where
+  pub grants-fit : GrantsBelow (l .names) (counting u (l .grants))
   pub p-fits : NamesBelow (l .names) p
   pub q-fits : NamesBelow (l .names) q
 
-pub names-fit : (ledger p q label : List ℕ) (l : Ledger) (tp tq L : Term) → Asked ledger p q label l tp tq L → NamesFit l L tp tq
-names-fit ledger p q label l tp tq L a = record {
-  grants-fit = counting-below (l .names) L (l .grants) (λ g m. let b = ledger-below ledger l (a .ledger-is) g m in (b .p-below, b .q-below));
+pub names-fit : (ledger p q label : List ℕ) (l : Ledger) (u : Under) (tp tq : Term) → Asked ledger p q label l u tp tq → NamesFit l u tp tq
+names-fit ledger p q label l u tp tq a = record {
+  grants-fit = counting-below (l .names) u (l .grants) (λ g m. let b = ledger-below ledger l (a .ledger-is) g m in (b .p-below, b .q-below));
   p-fits = accepted-codes (l .names) p tp .0 (a .p-is) .1;
   q-fits = accepted-codes (l .names) q tq .0 (a .q-is) .1;
 }
 
-pub yes-carries : (ledger p q label : List ℕ) (l : Ledger) (tp tq L : Term) → Asked ledger p q label l tp tq L
-    → (actsFor ledger p q label ≡ Yes) ↔ ((s : Side) → Carries (l .names) (counting (l .names) L (l .grants)) s tp tq)
+pub yes-carries : (ledger p q label : List ℕ) (l : Ledger) (u : Under) (tp tq : Term) → Asked ledger p q label l u tp tq
+    → (actsFor ledger p q label ≡ Yes) ↔ ((s : Side) → Carries (l .names) (counting u (l .grants)) s tp tq)
 unfolding soundUnder
-yes-carries ledger p q label l tp tq L a = acts-for-exact ledger p q label l tp tq L a .yes-exactly
+yes-carries ledger p q label l u tp tq a = acts-for-exact ledger p q label l u tp tq a .yes-exactly
 
 pub yes-acts : YesIsActsFor
-yes-acts ledger p q label l tp tq L a =
-    let f = names-fit ledger p q label l tp tq L a in
-    Iff·trans (yes-carries ledger p q label l tp tq L a)
-    (Iff·symm (acts-for (l .names) (counting (l .names) L (l .grants)) tp tq (f .grants-fit) (f .p-fits) (f .q-fits)))
+yes-acts ledger p q label l u tp tq a =
+    let f = names-fit ledger p q label l u tp tq a in
+    Iff·trans (yes-carries ledger p q label l u tp tq a)
+    (Iff·symm (acts-for (l .names) (counting u (l .grants)) tp tq (f .grants-fit) (f .p-fits) (f .q-fits)))
 
 pub yes-flows : YesIsFlowsTo
 unfolding flowsTo soundUnder
-yes-flows ledger p q label l tp tq L a =
-    let f = names-fit ledger p q label l tp tq L a in
-    rw (asked-answer flowsToUnder ledger p q label l tp tq L a)
-    (Iff·trans (flows-yes l L tp tq)
-    (Iff·symm (flows-to (l .names) (counting (l .names) L (l .grants)) tp tq (f .grants-fit) (f .p-fits) (f .q-fits))))
+yes-flows ledger p q label l u tp tq a =
+    let f = names-fit ledger p q label l u tp tq a in
+    rw (asked-answer flowsToUnder ledger p q label l u tp tq a)
+    (Iff·trans (flows-yes l u tp tq)
+    (Iff·symm (flows-to (l .names) (counting u (l .grants)) tp tq (f .grants-fit) (f .p-fits) (f .q-fits))))

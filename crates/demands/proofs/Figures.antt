@@ -14,10 +14,10 @@ use Rattle.model.specs.Bytes.{byte}
 use Rattle.model.specs.Readings.{Reading, accepted, refused, from, isAccepted}
 use Rattle.model.specs.Coalitions.{Marks}
 use Rattle.model.specs.Terms.{Term, readTerm, held}
-use Rattle.model.specs.Grants.{Grant, counts, ofGrant}
+use Rattle.model.specs.Grants.{Grant, readUnder, countsUnder, ofGrant}
 use Rattle.model.specs.Ledgers.{Ledger, readLedger}
 use Rattle.model.specs.Answers.{Answer, Yes, No, Written, Refused, RefusedAt, number}
-use Rattle.model.specs.Questions.{across, soundUnder, actsForUnder, flowsToUnder, ask, actsFor, flowsTo}
+use Rattle.model.specs.Questions.{answerTo, across, soundUnder, actsForUnder, flowsToUnder, ask, actsFor, flowsTo}
 use Rattle.model.specs.Extracts.{extractOf, written, extract}
 use Rattle.model.specs.ShortForms.{shortFormOf, writtenFront, shorten}
 use Rattle.model.specs.Derivations.{stepAt, Rule, ruleOf, usesOf, stepForm, readLeft, readRight, before, meets, checkStep, onStep, checkSteps, derivationLength, stepCount, checkDerivation}
@@ -27,7 +27,7 @@ use Rattle.model.proofs.Accepted.{names-range}
 use Rattle.model.proofs.Listed.{written-few}
 use Rattle.demands.specs.Numbers.{Range, _to_, OneOf, questionRefusals, extractRefusals, shortFormRefusals, derivationRefusals, stepRefusals, AnswersQuestion, AnswersExtract, AnswersShortForm, AnswersDerivation, QuestionsAnswered, ExtractsAnswered, ShortFormsAnswered, DerivationsAnswered, ComesBack, AnswersComeBack}
 use Rattle.demands.proofs.Asking.{judged}
-use Rattle.demands.proofs.Refusing.{Only, only-require, only-then, only-term, only-part, only-ledger, given-case}
+use Rattle.demands.proofs.Refusing.{Only, only-require, only-then, only-term, only-part, only-ledger, given-case, only-under}
 
 -- ---- an answer whose parts are small comes back out of its number
 abbrev Small : Answer → Type 0
@@ -63,9 +63,9 @@ question-answered F G ledger p q label =
     given-case (AnswersQuestion ledger) (readLedger ledger) _ (only-ledger R ledger (λ r a b. inl (a, b)))
     (λ l e. given-case (AnswersQuestion ledger) (from 20 (readTerm (l .names) p)) _ (only-part R 20 (l .names) p (λ r a b. inr (inl (omega arith, omega arith))))
     (λ tp _. given-case (AnswersQuestion ledger) (from 30 (readTerm (l .names) q)) _ (only-part R 30 (l .names) q (λ r a b. inr (inr (inl (omega arith, omega arith)))))
-    (λ tq _. given-case (AnswersQuestion ledger) (from 40 (readTerm (l .names) label)) _ (only-part R 40 (l .names) label (λ r a b. inr (inr (inr (inl (omega arith, omega arith))))))
-    (λ L _. judge-case (AnswersQuestion ledger) (l .names) (soundUnder l L) (F tp tq) (G tp tq) (λ _. tt)
-    (λ s c k. record { job = l; is = e; below = judge-no (l .names) (soundUnder l L) (F tp tq) (G tp tq) s c .0 k .below })))))
+    (λ tq _. given-case (AnswersQuestion ledger) (readUnder (l .names) label) _ (only-under R (l .names) label (λ r a b. inr (inr (inr (inl (omega arith, omega arith))))))
+    (λ u _. judge-case (λ v. AnswersQuestion ledger (answerTo v)) (l .names) (soundUnder l u) (F tp tq) (G tp tq) (λ _. tt)
+    (λ s c k. record { job = l; is = e; below = judge-no (l .names) (soundUnder l u) (F tp tq) (G tp tq) s c .0 k .below })))))
   where
     R : ℕ → Type 0
     R = OneOf questionRefusals
@@ -95,9 +95,9 @@ extracts-answered ledger label buffer =
     written-answered (extractOf ledger label (length buffer)) buffer
     (only-require (OneOf extractRefusals) (eqb (length buffer) 1024) 51 _ (inl (omega arith, omega arith))
     (only-then (OneOf extractRefusals) (readLedger ledger) _ (only-ledger (OneOf extractRefusals) ledger (λ r a b. inr (inl (a, b))))
-    (λ l. only-then (OneOf extractRefusals) (from 40 (readTerm (l .names) label)) _
-    (only-part (OneOf extractRefusals) 40 (l .names) label (λ r a b. inr (inr (inl (omega arith, omega arith)))))
-    (λ L. tt))))
+    (λ l. only-then (OneOf extractRefusals) (readUnder (l .names) label) _
+    (only-under (OneOf extractRefusals) (l .names) label (λ r a b. inr (inr (inl (omega arith, omega arith)))))
+    (λ u. tt))))
 
 extract-small : (answer : Answer) → AnswersExtract answer → Small answer
 extract-small Yes h = tt
@@ -157,10 +157,10 @@ pub derivations-answered : DerivationsAnswered
 unfolding checkDerivation
 derivations-answered d ledger label =
     given-case (AnswersDerivation d) (readLedger ledger) _ (only-ledger (OneOf derivationRefusals) ledger (λ r a b. inl (a, b)))
-    (λ l _. given-case (AnswersDerivation d) (from 40 (readTerm (l .names) label)) _
-    (only-part (OneOf derivationRefusals) 40 (l .names) label (λ r a b. inr (inl (omega arith, omega arith))))
-    (λ L _. cond-case (AnswersDerivation d) (derivationLength (length d)) (checkSteps l (counts (l .names) L) d 0 (stepCount d)) (Refused 60)
-    (λ e. steps-answered l (counts (l .names) L) d 0 (stepCount d) (few e) (omega arith))
+    (λ l _. given-case (AnswersDerivation d) (readUnder (l .names) label) _
+    (only-under (OneOf derivationRefusals) (l .names) label (λ r a b. inr (inl (omega arith, omega arith))))
+    (λ u _. cond-case (AnswersDerivation d) (derivationLength (length d)) (checkSteps l (countsUnder u) d 0 (stepCount d)) (Refused 60)
+    (λ e. steps-answered l (countsUnder u) d 0 (stepCount d) (few e) (omega arith))
     (λ _. inr (inr (inl (omega arith, omega arith))))))
   where
     few : derivationLength (length d) ≡ true → stepCount d ≤ 64

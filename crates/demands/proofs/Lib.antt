@@ -11,7 +11,6 @@ pub mod Sides
 pub mod Exact
 pub mod SevenRules
 pub mod Codes
-pub mod Telling
 pub mod Comparing
 pub mod Deriving
 pub mod Tried

@@ -8,6 +8,7 @@ use lib.ListN.{length}
 use Rattle.model.specs.Bytes.{byte}
 use Rattle.model.specs.Readings.{Reading, accepted, refused, andThen, from, require, refusedAs}
 use Rattle.model.specs.Terms.{Term, readTerm}
+use Rattle.model.specs.Grants.{readUnder}
 use Rattle.model.specs.Ledgers.{header, grantBlocks, checked, allChecked, headerForm, grantForm, readTerms, readGrant, readGrants, ledgerLength, readLedger}
 use Rattle.model.specs.Answers.{Answer, Refused, given}
 use Rattle.model.proofs.Refusals.{refused-number}
@@ -62,6 +63,10 @@ module _ (R : ℕ → Type 0) where
 -- a term whose refusals are counted from a base
 pub only-part : (R : ℕ → Type 0) (base n : ℕ) (cs : List ℕ) → ((r : ℕ) → 1 ≤ r → r ≤ 4 → R (base + r)) → Only R (from base (readTerm n cs))
 only-part R base n cs h = only-from R base (readTerm n cs) (only-term (λ r. R (base + r)) n cs h)
+
+-- a label refuses by 41 to 44
+pub only-under : (R : ℕ → Type 0) (n : ℕ) (label : List ℕ) → ((r : ℕ) → 1 ≤ r → r ≤ 4 → R (40 + r)) → Only R (readUnder n label)
+only-under R n label h = only-then R (from 40 (readTerm n label)) _ (only-part R 40 n label h) (λ L. tt)
 
 -- what follows from a reading, where its refusal is the answer
 pub given-case : {A : Type 0} (P : Answer → Type 0) (x : Reading A) (next : A → Answer) → Only (λ r. P (Refused r)) x → ((a : A) → x ≡ accepted a → P (next a)) → P (given x next)

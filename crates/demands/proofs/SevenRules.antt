@@ -8,7 +8,7 @@ use lib.Dec.{ltb}
 use borrow.Author.Tests.{ltb-true, lt-ltb}
 use Rattle.model.specs.Sides.{Side}
 use Rattle.model.specs.Terms.{Term, name, top, bottom, conj, disj, project, NamesBelow, held}
-use Rattle.model.specs.Grants.{Grant, sound, counting}
+use Rattle.model.specs.Grants.{soundOf, Grant, counting}
 use Rattle.model.proofs.Truth.{and-intro, and-left, and-right, or-elim, cond-case}
 use Rattle.model.proofs.Sound.{static-says, sound-elim}
 use Rattle.demands.specs.Algebra.{ActsFor, botR, topL, self, proj, projR, conjL₁, conjL₂, conjR, disjL, disjR₁, disjR₂, then, distr, conj-project, disj-project, basis, crossed, grant, GrantsBelow}
@@ -18,7 +18,7 @@ use Rattle.demands.proofs.Soundness.{soundness}
 use Rattle.demands.proofs.Completeness.{completeness}
 use Rattle.demands.proofs.Exact.{static-carries, names-fit, yes-carries}
 
-module _ (n : ℕ) (G : List Grant) (t : Side) (c : ℕ) (l : c < 2 ^ n) (good : sound G t c ≡ true) where
+module _ (n : ℕ) (G : List Grant) (t : Side) (c : ℕ) (l : c < 2 ^ n) (good : soundOf G t c ≡ true) where
   kept : {p q : Term} → Derives n G p q → held p t c ≡ true → held q t c ≡ true
   unfolding held
   kept (rule1 {p} {q} pn qn e) h = static-says n p q .0 e t c l h
@@ -91,7 +91,7 @@ rules-complete n G p q fit pn qn says =
     rw (trim-same n p pn, trim-same n q qn) at (trimmed n G fit (completeness n G p q fit pn qn says))
 
 pub yes-derived : YesIsDerived
-yes-derived ledger p q label l tp tq L a =
-    let f = names-fit ledger p q label l tp tq L a in
-    Iff·trans (yes-carries ledger p q label l tp tq L a)
-    (rules-complete (l .names) (counting (l .names) L (l .grants)) tp tq (f .grants-fit) (f .p-fits) (f .q-fits), λ d. rules-sound (l .names) (counting (l .names) L (l .grants)) tp tq d)
+yes-derived ledger p q label l u tp tq a =
+    let f = names-fit ledger p q label l u tp tq a in
+    Iff·trans (yes-carries ledger p q label l u tp tq a)
+    (rules-complete (l .names) (counting u (l .grants)) tp tq (f .grants-fit) (f .p-fits) (f .q-fits), λ d. rules-sound (l .names) (counting u (l .grants)) tp tq d)

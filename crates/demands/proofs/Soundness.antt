@@ -5,7 +5,7 @@ use mathlib.Core.List.{List}
 use Prim.Native.Nat.{ℕ}
 use Rattle.model.specs.Sides.{Side, confidentiality, integrity}
 use Rattle.model.specs.Terms.{Term, conj, disj, project, held}
-use Rattle.model.specs.Grants.{Grant, sound}
+use Rattle.model.specs.Grants.{Grant, soundOf}
 use Rattle.model.proofs.Held.{project-held}
 use Rattle.demands.specs.Algebra.{other, ActsFor, botR, topL, self, proj, projR, conjL₁, conjL₂, conjR, disjL, disjR₁, disjR₂, then, distr, conj-project, disj-project, basis, crossed, grant, Carries}
 use Rattle.model.proofs.Truth.{and-intro, and-left, and-right, or-elim, or-left, or-right}
@@ -23,7 +23,7 @@ crossed-held confidentiality integrity c p = refl
 crossed-held integrity confidentiality c p = refl
 crossed-held integrity integrity c p = refl
 
-module _ (G : List Grant) (t : Side) (c : ℕ) (good : sound G t c ≡ true) where
+module _ (G : List Grant) (t : Side) (c : ℕ) (good : soundOf G t c ≡ true) where
   kept : {p q : Term} → ActsFor G p q → held p t c ≡ true → held q t c ≡ true
   unfolding held
   kept botR h = refl

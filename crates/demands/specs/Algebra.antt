@@ -7,7 +7,7 @@ use mathlib.Core.Bool.{true}
 use mathlib.Core.List.{List, [], List·Memᴰ}
 use Rattle.model.specs.Sides.{Side, confidentiality, integrity}
 use Rattle.model.specs.Terms.{Term, name, top, bottom, conj, disj, project, NamesBelow, held}
-use Rattle.model.specs.Grants.{Grant, actsStatically, visible, voice, spoken, counting, sound}
+use Rattle.model.specs.Grants.{Under, Grant, actsStatically, visible, voice, spoken, counting, soundOf}
 use Rattle.model.specs.Ledgers.{Ledger}
 use Rattle.model.specs.Answers.{Yes}
 use Rattle.model.specs.Questions.{actsFor, flowsTo}
@@ -100,7 +100,7 @@ GrantsBelow n G = (g : Grant) → List·Memᴰ g G → NamesBelow n (g .p) × Na
 
 -- on a side, every sound coalition of n names that holds p holds q
 abbrev pub Carries : ℕ → List Grant → Side → Term → Term → Type 0
-Carries n G s p q = Holds n (sound G) (held p) (held q) s
+Carries n G s p q = Holds n (soundOf G) (held p) (held q) s
 
 -- The claims. Each is the promise of a function of module `algebra`.
 
@@ -124,11 +124,11 @@ StaticIsActsFor = (n : ℕ) (p q : Term) → NamesBelow n p → NamesBelow n q �
 
 -- Under L a grant labelled d is visible exactly if d flows to L.
 abbrev pub VisibleIsFlowsTo : Type 0
-VisibleIsFlowsTo = (n : ℕ) (L d : Term) → NamesBelow n L → NamesBelow n d → (visible n L d ≡ true) ↔ FlowsTo [] d L
+VisibleIsFlowsTo = (n : ℕ) (L d : Term) → NamesBelow n L → NamesBelow n d → (visible n (held L) (held d) ≡ true) ↔ FlowsTo [] d L
 
 -- A grant labelled d, of what q may do, is spoken exactly if d's integrity acts for the voice of q.
 abbrev pub SpokenIsActsForVoice : Type 0
-SpokenIsActsForVoice = (n : ℕ) (q d : Term) → NamesBelow n q → NamesBelow n d → (spoken n q d ≡ true) ↔ ActsFor [] (project integrity d) (voiceOf q)
+SpokenIsActsForVoice = (n : ℕ) (q d : Term) → NamesBelow n q → NamesBelow n d → (spoken n (held q) (held d) ≡ true) ↔ ActsFor [] (project integrity d) (voiceOf q)
 
 -- Every term equals its normal form, whose two parts have no projections.
 pub record HasNormalForm (t : Term) : Type 0 where
@@ -146,7 +146,7 @@ pub record VoiceOfNormalForms : Type 0 where
 
 -- It is held where document 01's voice is, on each side, at every coalition.
 abbrev pub VoiceIsHeld : Type 0
-VoiceIsHeld = (s : Side) (q : Term) (c : ℕ) → held (voiceOf q) s c ≡ voice q s c
+VoiceIsHeld = (s : Side) (q : Term) (c : ℕ) → held (voiceOf q) s c ≡ voice (held q) s c
 
 -- Definitions 1 and 2 in full, under any grants: the five properties of an authority projection, and the three of the basis.
 pub record ProjectionLaws (G : List Grant) : Type 0 where
@@ -165,11 +165,11 @@ DefinitionsOneAndTwo = (G : List Grant) → ProjectionLaws G
 -- On the bytes of a question none of whose inputs is refused, acts-for answers yes exactly if the algebra derives it from the grants that count.
 abbrev pub YesIsActsFor : Type 0
 YesIsActsFor =
-    (ledger p q label : List ℕ) (l : Ledger) (tp tq L : Term) → Asked ledger p q label l tp tq L
-    → (actsFor ledger p q label ≡ Yes) ↔ ActsFor (counting (l .names) L (l .grants)) tp tq
+    (ledger p q label : List ℕ) (l : Ledger) (u : Under) (tp tq : Term) → Asked ledger p q label l u tp tq
+    → (actsFor ledger p q label ≡ Yes) ↔ ActsFor (counting u (l .grants)) tp tq
 
 -- So does flows-to, by Definition 3.
 abbrev pub YesIsFlowsTo : Type 0
 YesIsFlowsTo =
-    (ledger p q label : List ℕ) (l : Ledger) (tp tq L : Term) → Asked ledger p q label l tp tq L
-    → (flowsTo ledger p q label ≡ Yes) ↔ FlowsTo (counting (l .names) L (l .grants)) tp tq
+    (ledger p q label : List ℕ) (l : Ledger) (u : Under) (tp tq : Term) → Asked ledger p q label l u tp tq
+    → (flowsTo ledger p q label ≡ Yes) ↔ FlowsTo (counting u (l .grants)) tp tq

@@ -3,7 +3,6 @@ pub mod Buffers
 pub mod Answers
 pub mod Algebra
 pub mod Rules
-pub mod Witness
 pub mod Extracts
 pub mod Derivations
 pub mod Numbers

@@ -7,7 +7,7 @@ use mathlib.Core.Bool.{true}
 use mathlib.Core.List.{List, List·Memᴰ}
 use Rattle.model.specs.Sides.{Side}
 use Rattle.model.specs.Terms.{Term, conj, disj, project, NamesBelow}
-use Rattle.model.specs.Grants.{Grant, actsStatically, counting}
+use Rattle.model.specs.Grants.{Under, Grant, actsStatically, counting}
 use Rattle.model.specs.Ledgers.{Ledger}
 use Rattle.model.specs.Answers.{Yes}
 use Rattle.model.specs.Questions.{actsFor}
@@ -44,5 +44,5 @@ RulesAreComplete =
 -- So a yes, on the bytes of a question, is what the rules derive from the grants that count under the label.
 abbrev pub YesIsDerived : Type 0
 YesIsDerived =
-    (ledger p q label : List ℕ) (l : Ledger) (tp tq L : Term) → Asked ledger p q label l tp tq L
-    → (actsFor ledger p q label ≡ Yes) ↔ Derives (l .names) (counting (l .names) L (l .grants)) tp tq
+    (ledger p q label : List ℕ) (l : Ledger) (u : Under) (tp tq : Term) → Asked ledger p q label l u tp tq
+    → (actsFor ledger p q label ≡ Yes) ↔ Derives (l .names) (counting u (l .grants)) tp tq

@@ -13,7 +13,7 @@ use Rattle.model.specs.Bytes.{byte}
 use Rattle.model.specs.Readings.{Reading, accepted, refused, require, isAccepted}
 use Rattle.model.specs.Coalitions.{member}
 use Rattle.model.specs.Terms.{Term, readTerm}
-use Rattle.model.specs.Grants.{Grant, counts, ofGrant}
+use Rattle.model.specs.Grants.{under, countsUnder, Grant, ofGrant}
 use Rattle.model.specs.Ledgers.{Ledger, readLedger, grantBlock}
 use Rattle.model.specs.Answers.{Answer, Yes, RefusedAt, Refused as RefusedAnswer}
 use Rattle.model.specs.Derivations.{stepAt, ruleOf, usesOf, stepForm, readLeft, readRight, checkStep, onStep, checkSteps, derivationLength, stepCount, checkDerivation, ifAccepted, quote}
@@ -153,7 +153,7 @@ module _ (d ledger label : List ℕ) where
     label-refused r f = rw (read .is, read .names, f)
 
     both-accepted : (L : Term) → readTerm n label ≡ accepted L
-        → checkDerivation d ledger label ≡ cond (derivationLength (length d)) (checkSteps (read .ledger) (counts n L) d 0 (stepCount d)) (RefusedAnswer 60)
+        → checkDerivation d ledger label ≡ cond (derivationLength (length d)) (checkSteps (read .ledger) (countsUnder (under n L)) d 0 (stepCount d)) (RefusedAnswer 60)
     unfolding checkDerivation
     both-accepted L f = rw (read .is, read .names, f)
 
@@ -168,7 +168,7 @@ module _ (d ledger label : List ℕ) where
           → answer ≡ checkDerivation d ledger label
       steps-checked bits answer e counted checked =
           let of = ledger-of ledger n k read in
-          rw (both-accepted (term .term) (term .is), e) (checked (read .ledger) (counts n (term .term)) of (counted ∙ counted-in ledger n k (read .ledger) of (term .term) label (term .is)))
+          rw (both-accepted (term .term) (term .is), e) (checked (read .ledger) (countsUnder (under n (term .term))) of (counted ∙ counted-in ledger n k (read .ledger) of (term .term) label (term .is)))
 
 -- ---- quoting
 

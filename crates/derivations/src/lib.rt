@@ -11,7 +11,7 @@ ghost use Rattle.model.specs.Bytes.{byte, same};
 ghost use Rattle.model.specs.Coalitions.{member};
 ghost use Rattle.model.specs.Grants.{Grant};
 ghost use Rattle.model.specs.Ledgers.{Ledger};
-ghost use Rattle.model.specs.Derivations.{stepAt, left, right, transitive, conjunction, disjunction, ruleOf, isRule, usesOf, stepForm, before, meets, checkSteps, derivationLength, stepCount, checkDerivation, quote};
+ghost use Rattle.model.specs.Derivations.{stepAt, left, right, transitive, conjunction, disjunction, ruleOf, isRule, usesOf, stepForm, before, meets, checkSteps, stepCount, checkDerivation, quote};
 ghost use Rattle.model.specs.Meanings.{grantBits};
 ghost use Rattle.terms.specs.Readings.{termReading};
 ghost use Rattle.ledgers.specs.Readings.{LedgerOf};

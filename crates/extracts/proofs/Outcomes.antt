@@ -10,6 +10,7 @@ use Rattle.model.specs.Coalitions.{Marks}
 use Rattle.model.specs.Terms.{Term, readTerm}
 use Rattle.model.specs.Ledgers.{Ledger, readLedger}
 use Rattle.model.specs.Answers.{Yes, Refused, Outcome}
+use Rattle.model.specs.Grants.{under}
 use Rattle.model.specs.Questions.{soundUnder}
 use Rattle.model.specs.Extracts.{table, extractOf, extract}
 use Rattle.model.proofs.Table.{length-packed}
@@ -41,10 +42,10 @@ module _ (ledger label buffer : List ℕ) where
       unfolding extract extractOf
       label-refused r e = rw (eq-eqb (length buffer) 1024 fits, is, job, e)
 
-      pub table-written : (L : Term) (bytes : List ℕ) → readTerm n label ≡ accepted L → bytes ≡ table n (soundUnder l L) → record { answer = Yes; buffer = bytes } ≡ extract ledger label buffer
+      pub table-written : (L : Term) (bytes : List ℕ) → readTerm n label ≡ accepted L → bytes ≡ table n (soundUnder l (under n L)) → record { answer = Yes; buffer = bytes } ≡ extract ledger label buffer
       unfolding extract extractOf
       table-written L bytes e t =
-          rw (eq-eqb (length buffer) 1024 fits, is, ap (λ (m : ℕ). readTerm m label) job ∙ e, t ∙ ap (λ (m : ℕ). table m (soundUnder l L)) (sym job))
+          rw (eq-eqb (length buffer) 1024 fits, is, ap (λ (m : ℕ). readTerm m label) job ∙ e, t ∙ ap (λ (m : ℕ). table m (soundUnder l (under m L))) (sym job))
 
 -- both halves, copied into the buffer one after the other, are the table
 pub halves-table : (n : ℕ) (S : Marks) (see change buffer : List ℕ) → length buffer ≡ 1024 → Halves n S see change → paste (paste buffer 0 see 512) 512 change 512 ≡ table n S

@@ -1,17 +1,12 @@
 -- Laws of the weighted sum of a block's check. Assumes nothing.
-use Prim.Native.Nat.{ℕ, zero, suc, _+_, _*_, _≤_, _<_}
+use Prim.Native.Nat.{ℕ, suc, _+_, _*_, _≤_, _<_}
 use native.Mathlib.Nat.{mul-le-mul, add-zero, zero-add, add-assoc, mul-zero, add-mul, mul-add}
 use native.Mathlib.Numerals.{add-one}
 use native.Mathlib.Omega.{arith}
-use mathlib.Core.Path.{_≡_, refl, sym, ap, _∙_}
-use mathlib.Core.Bool.{Bool, true, _&&_, and-assoc, and-true}
+use mathlib.Core.Path.{_≡_, sym, ap, _∙_}
 use mathlib.Core.List.{List, [], _∷_, _++_}
-use lib.Dec.{eqb, eqb·suc-zero}
-use lib.Bits.{bitOr, or-add-and, and-le-l, and-le-r, or-zero-l}
 use lib.ListN.{length, take, drop, getD, drop-of-length-le}
 use lib.Seq.{drop-cons, length-take-le, take-add}
-use borrow.Author.Tests.{ne-eqb}
-use Rattle.model.specs.Bytes.{zeros}
 use Rattle.model.specs.Ledgers.{weighted}
 use Rattle.ledgers.specs.Forms.{total, Summed}
 

@@ -4,8 +4,8 @@ ghost use mathlib.Core.Path.{_≡_};
 ghost use mathlib.Core.Bool.{_&&_};
 ghost use Prim.Native.Nat.{_+_, _*_, _≤_, _<_};
 ghost use lib.ListN.{length, take};
-ghost use Rattle.model.specs.Bytes.{byte, field, twoBytes, zeros};
-ghost use Rattle.model.specs.Ledgers.{weighted, checked, header, grantBlocks, allChecked, headerForm, grantForm, pBytes, qBytes, labelBytes, readGrant, readGrants, ledgerLength, readLedger, grantBlock};
+ghost use Rattle.model.specs.Bytes.{byte, twoBytes};
+ghost use Rattle.model.specs.Ledgers.{weighted, checked, header, grantBlocks, allChecked, headerForm, grantForm, pBytes, qBytes, labelBytes, readGrant, readGrants, readLedger, grantBlock};
 ghost use Rattle.ledgers.specs.Forms.{termForm, Summed};
 ghost use Rattle.ledgers.specs.Readings.{grantReading, grantRefusal, ledgerReading, ledgerRefusal};
 

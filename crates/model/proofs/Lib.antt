@@ -19,3 +19,4 @@ pub mod Bars
 pub mod Prefixes
 pub mod Monotone
 pub mod Listed
+pub mod Telling

@@ -3,7 +3,7 @@
 use Rattle.model.specs.Sides.{Side, confidentiality, integrity}
 use Rattle.model.specs.Readings.{Reading, accepted, refused, require}
 use Rattle.model.specs.Coalitions.{member}
-use Prim.Native.Nat.{ℕ, zero, suc, _/_, _%_, _^_, _<_}
+use Prim.Native.Nat.{ℕ, zero, suc, _<_}
 use mathlib.Core.Bool.{Bool, true, false, cond, _&&_, _||_}
 use mathlib.Core.List.{List, [], _∷_, _++_}
 use lib.Dec.{eqb, ltb, leb}

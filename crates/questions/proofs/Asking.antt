@@ -4,9 +4,10 @@ use mathlib.Core.List.{List}
 use Prim.Native.Nat.{ℕ, _+_}
 use Rattle.model.specs.Readings.{accepted, refused}
 use Rattle.model.specs.Terms.{Term, readTerm}
+use Rattle.model.specs.Grants.{Under, under}
 use Rattle.model.specs.Ledgers.{Ledger, readLedger}
 use Rattle.model.specs.Answers.{Answer, Refused}
-use Rattle.model.specs.Questions.{ask}
+use Rattle.model.specs.Questions.{answerTo, ask}
 use Rattle.ledgers.specs.Readings.{LedgerOf}
 use Rattle.words.specs.AnyBytes.{termIn}
 use Rattle.words.specs.Evaluation.{jobOf}
@@ -27,18 +28,18 @@ use Rattle.questions.proofs.Refuting.{judged-under}
 -- what is judged on bytes that are accepted is what the question answers
 pub judged-asked : (question : Question) (ledger p q label : List ℕ) (n grants counted : ℕ) (l : Ledger) (tp tq L : Term) → LedgerOf ledger n grants l
     → readTerm n p ≡ accepted tp → readTerm n q ≡ accepted tq → readTerm n label ≡ accepted L → counted ≡ countedIn ledger n grants label
-    → judgeOf question (jobOf n) (soundIn ledger grants counted) (termIn p) (termIn q) ≡ questionOf question l L tp tq
+    → answerTo (judgeOf question (jobOf n) (soundIn ledger grants counted) (termIn p) (termIn q)) ≡ questionOf question l (under n L) tp tq
 judged-asked question ledger p q label n grants counted l tp tq L of a b c e =
     rw (job-is n (names-few ledger n grants l of), term-in n p tp a, term-in n q tq b)
-    (judged-under question n l L tp tq _ (of .names) (sound-counted ledger label n grants counted l L of c e))
+    (judged-under question n l (under n L) tp tq _ (of .names) (sound-counted ledger label n grants counted l L of c e))
 
 -- a verdict's answer is what the verdict stands for
-pub verdict-answers : (v : Verdict) (r : Answered) (a : Answer) → r ≡ verdictAnswer v → verdictOf v ≡ a → answerOf r ≡ a
-verdict-answers Holds r a e h = rw e h
-verdict-answers (Refuted s c) r a e h = rw e h
+pub verdict-answers : (v : Verdict) (r : Answered) → r ≡ verdictAnswer v → answerOf r ≡ answerTo (verdictOf v)
+verdict-answers Holds r e = rw e
+verdict-answers (Refuted s c) r e = rw e
 
 -- ---- a question whose ledger is refused, or p, q or the label
-module _ (answer : Ledger → Term → Term → Term → Answer) (ledger p q label : List ℕ) where
+module _ (answer : Ledger → Under → Term → Term → Answer) (ledger p q label : List ℕ) where
   pub ask-ledger : (r : ℕ) → readLedger ledger ≡ refused r → Refused r ≡ ask answer ledger p q label
   unfolding ask
   ask-ledger r e = rw e
@@ -59,6 +60,6 @@ module _ (answer : Ledger → Term → Term → Term → Answer) (ledger p q lab
         ask-label r e = rw (read, names, p-read, q-read, e)
 
         -- nothing is refused
-        pub ask-answer : (L : Term) → readTerm n label ≡ accepted L → answer l L tp tq ≡ ask answer ledger p q label
+        pub ask-answer : (L : Term) → readTerm n label ≡ accepted L → answer l (under n L) tp tq ≡ ask answer ledger p q label
         unfolding ask
         ask-answer L e = rw (read, names, p-read, q-read, e)

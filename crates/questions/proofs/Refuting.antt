@@ -1,19 +1,19 @@
 -- Words of the coalitions that refute if they are sound, and what is judged where the bytes are accepted. Assumes nothing.
-use mathlib.Core.Path.{_≡_, refl, _∙_}
+use mathlib.Core.Path.{_≡_, refl, ap, _∙_}
 use mathlib.Core.Bool.{Bool, true, false, not, _&&_}
 use Prim.Native.Nat.{ℕ, _-_, _*_, _^_, _<_}
-use native.Mathlib.Omega.{arith}
 use lib.Bits.{bitAnd}
 use lib.Dec.{ltb}
 use Rattle.model.specs.Sides.{Side, confidentiality, integrity}
 use Rattle.model.specs.Coalitions.{Marks, mark, packed}
 use Rattle.model.specs.Terms.{Term, held}
+use Rattle.model.specs.Grants.{Under}
 use Rattle.model.specs.Ledgers.{Ledger}
-use Rattle.model.specs.Questions.{refutes, across, soundUnder, actsForUnder, flowsToUnder}
+use Rattle.model.specs.Questions.{answerTo, refutes, across, soundUnder, actsForUnder, flowsToUnder}
 use Rattle.model.proofs.Bars.{lacks}
 use Rattle.model.proofs.Judge.{judge-cong}
 use Rattle.words.specs.Evaluation.{coalitionWord, jobOf, WordsAt}
-use Rattle.words.proofs.Packing.{packed-cong, packed-and, packed-lacks}
+use Rattle.words.proofs.Packing.{packed-and, packed-lacks}
 use Rattle.words.proofs.Names.{few-coalitions}
 use Rattle.questions.specs.declared.Question.{Question}
 use Rattle.questions.specs.declared.Question.the-variants.{ActsFor, FlowsTo}
@@ -54,8 +54,8 @@ refuters-are question n S p q s c h = rw (few-coalitions n c h) (turn (ltb c (2 
     turn true true false = refl
 
 -- what is judged of a ledger and a label: marks that agree are judged alike
-pub judged-under : (question : Question) (n : ℕ) (l : Ledger) (L p q : Term) (S : Marks) → n ≡ l .names → ((s : Side) (c : ℕ) → S s c ≡ soundUnder l L s c)
-    → judgeOf question n S p q ≡ questionOf question l L p q
+pub judged-under : (question : Question) (n : ℕ) (l : Ledger) (u : Under) (p q : Term) (S : Marks) → n ≡ l .names → ((s : Side) (c : ℕ) → S s c ≡ soundUnder l u s c)
+    → answerTo (judgeOf question n S p q) ≡ questionOf question l u p q
 unfolding actsForUnder flowsToUnder
-judged-under ActsFor n l L p q S e h = judge-cong n S (soundUnder l L) (held p) (held q) (λ s c _. h s c) ∙ rw e
-judged-under FlowsTo n l L p q S e h = judge-cong n S (soundUnder l L) (across q p) (across p q) (λ s c _. h s c) ∙ rw e
+judged-under ActsFor n l u p q S e h = ap answerTo (judge-cong n S (soundUnder l u) (held p) (held q) (λ s c _. h s c)) ∙ rw e
+judged-under FlowsTo n l u p q S e h = ap answerTo (judge-cong n S (soundUnder l u) (across q p) (across p q) (λ s c _. h s c)) ∙ rw e

@@ -1,15 +1,13 @@
 -- The first refuter, one word after another. Assumes nothing.
 use mathlib.Core.Path.{_≡_, refl, sym, ap, ap₂, _∙_}
-use mathlib.Core.Bool.{Bool, false, _&&_}
+use mathlib.Core.Bool.{Bool, _&&_}
 use Prim.Native.Nat.{ℕ, _+_, _-_, _*_, _%_, _^_, _≤_, _<_}
-use native.Mathlib.Nat.{mod-eq-of-lt}
 use native.Mathlib.Decide.{ℕ-discrete}
 use native.Mathlib.Omega.{arith}
 use Rattle.model.specs.Sides.{Side, confidentiality, integrity}
 use Rattle.model.specs.Coalitions.{member, Marks, Lowest, nowhere, at, lowest, packed}
 use Rattle.model.specs.Terms.{Term}
-use Rattle.model.specs.Answers.{Answer, Yes, No}
-use Rattle.model.specs.Questions.{refutes, ground, judge}
+use Rattle.model.specs.Questions.{holds, refuted, refutes, ground, judge}
 use Rattle.model.proofs.Packed.{own-bits}
 use Rattle.words.specs.Evaluation.{jobOf, wordsOf, WordsAt, LowestBit}
 use Rattle.words.proofs.Names.{count-few}
@@ -58,19 +56,19 @@ module _ (R : Marks) (w : ℕ) where
   change = lowest (R integrity) (64 * w)
 
   -- nothing found yet
-  none-yet : (a b : Lowest) → a ≡ nowhere → Yes ≡ ground a b → b ≡ nowhere
+  none-yet : (a b : Lowest) → a ≡ nowhere → holds ≡ ground a b → b ≡ nowhere
   none-yet (at c) b e h = cc
   none-yet nowhere nowhere e h = refl
   none-yet nowhere (at c) e h = cc
 
   -- a ground on the change side
-  found-yet : (a b : Lowest) (s : Side) (c : ℕ) → a ≡ nowhere → No s c ≡ ground a b → (b ≡ at c) × (s ≡ integrity)
+  found-yet : (a b : Lowest) (s : Side) (c : ℕ) → a ≡ nowhere → refuted s c ≡ ground a b → (b ≡ at c) × (s ≡ integrity)
   found-yet (at d) b s c e h = (cc, cc)
   found-yet nowhere nowhere s c e h = (cc, cc)
   found-yet nowhere (at d) s c e h = (cc, cc)
 
   -- one on the see side
-  pub further-see : (r : ℕ) → lowest (R confidentiality) (64 * (w + 1)) ≡ at r → No confidentiality r ≡ foundTo R (64 * (w + 1))
+  pub further-see : (r : ℕ) → lowest (R confidentiality) (64 * (w + 1)) ≡ at r → refuted confidentiality r ≡ foundTo R (64 * (w + 1))
   further-see r e = rw e
 
   -- none there
@@ -79,7 +77,7 @@ module _ (R : Marks) (w : ℕ) where
 
   module _ (x y : ℕ) where
     -- one on the change side, which is the first there
-    pub further-change : (found : Verdict) (r : ℕ) → Deciding R found w x y → x ≡ 0 → (y ≡ 0 → ⊥) → ((f : ℕ → Bool) → LowestIn f w y r) → w < 64 → No integrity r ≡ foundTo R (64 * (w + 1))
+    pub further-change : (found : Verdict) (r : ℕ) → Deciding R found w x y → x ≡ 0 → (y ≡ 0 → ⊥) → ((f : ℕ → Bool) → LowestIn f w y r) → w < 64 → refuted integrity r ≡ foundTo R (64 * (w + 1))
     further-change Holds r d z nonzero low below =
         rw (see-clear x (d .clear) (d .words .see-word) z, low (R integrity) below (none-yet see change (d .clear) (d .so-far)) (d .words .change-word) nonzero)
     further-change (Refuted s c) r d z nonzero low below = absurd (nonzero (d .words .change-word ∙ packed-none (64 * w) 64))
@@ -95,7 +93,7 @@ module _ (R : Marks) (w : ℕ) where
         rw (see-clear x (d .clear) (d .words .see-word) z, lowest-kept (R integrity) (64 * w) (64 * (w + 1)) c (kept .0) (omega arith), kept .1)
 
 -- before the first word
-pub found-none : (R : Marks) → Yes ≡ foundTo R (64 * 0)
+pub found-none : (R : Marks) → holds ≡ foundTo R (64 * 0)
 found-none R = rw (lowest-zero (R confidentiality), lowest-zero (R integrity))
 
 -- a ground on the see side, in word w, is the verdict whatever follows

@@ -1,10 +1,11 @@
 -- What each case of a question and of an answer stands for in document 01, "Acts-for question" and "Flows-to question".
 -- Assumes nothing: these are definitions.
 use Rattle.model.specs.Sides.{confidentiality, integrity, Side as ModelSide}
-use Rattle.model.specs.Answers as model
 use Rattle.model.specs.Terms.{Term}
+use Rattle.model.specs.Grants.{Under}
 use Rattle.model.specs.Ledgers.{Ledger}
 use Rattle.model.specs.Questions.{actsForUnder, flowsToUnder}
+use Rattle.model.specs.Answers as model
 use Rattle.questions.specs.declared.Side.{Side}
 use Rattle.questions.specs.declared.Side.the-variants.{See, Change}
 use Rattle.questions.specs.declared.Answer.{Answer}
@@ -24,6 +25,6 @@ answerOf (No s c) = model.No (sideOf s) c
 answerOf (Refused r) = model.Refused r
 
 -- what the question answers of a ledger and a label
-abbrev pub questionOf : Question → Ledger → Term → Term → Term → model.Answer
+abbrev pub questionOf : Question → Ledger → Under → Term → Term → model.Answer
 questionOf ActsFor = actsForUnder
 questionOf FlowsTo = flowsToUnder

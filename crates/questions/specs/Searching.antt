@@ -4,9 +4,9 @@ use mathlib.Core.Path.{_≡_}
 use mathlib.Core.Bool.{Bool, false, not, _&&_}
 use Prim.Native.Nat.{ℕ, _+_, _*_, _^_, _<_}
 use lib.Dec.{ltb}
-use Rattle.model.specs.Answers as model
-use Rattle.model.specs.Sides.{Side, confidentiality, integrity}
-use Rattle.model.specs.Coalitions.{Marks, Lowest, nowhere, at, lowest, mark, packed}
+use Rattle.model.specs.Questions as model
+use Rattle.model.specs.Sides.{confidentiality, integrity}
+use Rattle.model.specs.Coalitions.{Marks, nowhere, at, lowest, mark, packed}
 use Rattle.model.specs.Terms.{Term, held}
 use Rattle.model.specs.Questions.{refutes, ground, judge, across}
 use Rattle.words.specs.Evaluation.{jobOf, WordsAt}
@@ -19,9 +19,9 @@ use Rattle.questions.specs.declared.Verdict.the-variants.{Holds, Refuted
 use Rattle.questions.specs.Answers.{sideOf}
 
 -- what each case of a verdict stands for
-abbrev pub verdictOf : Verdict → model.Answer
-verdictOf Holds = model.Yes
-verdictOf (Refuted s c) = model.No (sideOf s) c
+abbrev pub verdictOf : Verdict → model.Verdict
+verdictOf Holds = model.holds
+verdictOf (Refuted s c) = model.refuted (sideOf s) c
 
 -- and as an answer
 abbrev pub verdictAnswer : Verdict → Answer
@@ -38,7 +38,7 @@ toOf ActsFor p q = held q
 toOf FlowsTo p q = across p q
 
 -- what is judged, S being the sound coalitions
-abbrev pub judgeOf : Question → ℕ → Marks → Term → Term → model.Answer
+abbrev pub judgeOf : Question → ℕ → Marks → Term → Term → model.Verdict
 judgeOf question n S p q = judge n S (fromOf question p q) (toOf question p q)
 
 -- of the coalitions of n names, those that refute if they are sound
@@ -64,7 +64,7 @@ stillOf Holds f = f
 stillOf (Refuted s c) f = seeOnly f
 
 -- the first of the refuters R below k
-abbrev pub foundTo : Marks → ℕ → model.Answer
+abbrev pub foundTo : Marks → ℕ → model.Verdict
 foundTo R k = ground (lowest (R confidentiality) k) (lowest (R integrity) k)
 
 -- Before word w the first of the refuters R is the verdict, and none is on the see side; of word w, these are the refuters that can still decide.

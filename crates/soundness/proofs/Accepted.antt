@@ -10,7 +10,7 @@ use Rattle.model.specs.Sides.{Side}
 use Rattle.model.specs.Readings.{accepted}
 use Rattle.model.specs.Coalitions.{member, implies, every}
 use Rattle.model.specs.Terms.{Term, top, readTerm}
-use Rattle.model.specs.Grants.{Grant, keeps, counts, chosen, sound}
+use Rattle.model.specs.Grants.{under, marksOf, countsUnder, soundOf, Grant, keeps, chosen}
 use Rattle.model.specs.Ledgers.{Ledger, readLedger}
 use Rattle.model.specs.Questions.{soundUnder}
 use Rattle.model.specs.Meanings.{grantBits}
@@ -29,7 +29,7 @@ noGrant = record { p = top; q = top; label = top }
 
 -- the coalitions that keep the grants of these bits are those that keep the grants at which the test holds
 sound-in : (bytes : List ℕ) (grants : ℕ) (l : Ledger) (f : Grant → Bool) → readLedger bytes ≡ accepted l → grants ≡ length (l .grants)
-    → (s : Side) (c : ℕ) → soundIn bytes grants (grantBits f (l .grants)) s c ≡ sound (chosen f (l .grants)) s c
+    → (s : Side) (c : ℕ) → soundIn bytes grants (grantBits f (l .grants)) s c ≡ soundOf (chosen f (l .grants)) s c
 unfolding soundIn every
 sound-in bytes grants l f is count s c = first grants (omega arith) ∙ rw (take-all grants (l .grants) (omega arith))
   where
@@ -37,21 +37,21 @@ sound-in bytes grants l f is count s c = first grants (omega arith) ∙ rw (take
     grantAt k = getD (l .grants) k noGrant
 
     test : ℕ → Bool
-    test k = implies (member k (grantBits f (l .grants))) (keeps (grantIn bytes k) s c)
+    test k = implies (member k (grantBits f (l .grants))) (keeps (marksOf (grantIn bytes k)) s c)
 
-    each : (k : ℕ) → k < grants → test k ≡ implies (f (grantAt k)) (keeps (grantAt k) s c)
+    each : (k : ℕ) → k < grants → test k ≡ implies (f (grantAt k)) (keeps (marksOf (grantAt k)) s c)
     each k b =
         ap₂ implies
         (bits-say f (l .grants) k (ledger-stands bytes l is .count-most) ∙ ofGrant-getD f (l .grants) k noGrant (omega arith))
-        (ap (λ (g : Grant). keeps g s c) (grant-in bytes l k noGrant is (omega arith)))
+        (ap (λ (g : Grant). keeps (marksOf g) s c) (grant-in bytes l k noGrant is (omega arith)))
 
-    first : (k : ℕ) → k ≤ grants → every test k ≡ sound (chosen f (take k (l .grants))) s c
+    first : (k : ℕ) → k ≤ grants → every test k ≡ soundOf (chosen f (take k (l .grants))) s c
     first zero b = sym (sound-none f s c (l .grants))
     first (suc k) b = ap₂ _&&_ (first k (omega arith)) (each k (omega arith)) ∙ sym (sound-more f s c (l .grants) k noGrant (omega arith))
 
 -- with the bits of the grants that count under a label, these are the sound coalitions
 pub sound-counted : (bytes label : List ℕ) (n grants counted : ℕ) (l : Ledger) (L : Term) → LedgerOf bytes n grants l → readTerm n label ≡ accepted L
-    → counted ≡ countedIn bytes n grants label → (s : Side) (c : ℕ) → soundIn bytes grants counted s c ≡ soundUnder l L s c
+    → counted ≡ countedIn bytes n grants label → (s : Side) (c : ℕ) → soundIn bytes grants counted s c ≡ soundUnder l (under n L) s c
 unfolding soundUnder
 sound-counted bytes label n grants counted l L of e is s c =
-    rw (is ∙ counted-in bytes n grants l of L label e) (sound-in bytes grants l (counts n L) (of .is) (of .count) s c ∙ rw (of .names))
+    rw (is ∙ counted-in bytes n grants l of L label e) (sound-in bytes grants l (countsUnder (under n L)) (of .is) (of .count) s c)

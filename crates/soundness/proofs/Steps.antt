@@ -11,7 +11,7 @@ use borrow.Author.Tests.{eq-eqb, ne-eqb}
 use Rattle.model.specs.Sides.{Side, confidentiality, integrity}
 use Rattle.model.specs.Coalitions.{member, Marks, implies, every, packed}
 use Rattle.model.specs.Terms.{held}
-use Rattle.model.specs.Grants.{Grant, keeps}
+use Rattle.model.specs.Grants.{Grant, marksOf, keeps}
 use Rattle.model.proofs.Truth.{clash, false-of}
 use Rattle.model.proofs.Search.{every-elim, every-intro}
 use Rattle.words.specs.AnyBytes.{grantIn}
@@ -35,7 +35,7 @@ packed-implies f p q i =
 
 -- those of f that keep the grant
 abbrev pub keeping : Marks → Grant → Marks
-keeping f g s c = f s c && keeps g s c
+keeping f g s c = f s c && keeps (marksOf g) s c
 
 -- the words of those that keep one grant more
 pub kept-words : (g : Grant) (f : Marks) (w see change ps pc qs qc : ℕ) → WordsAt f w see change → WordsAt (held (g .p)) w ps pc → WordsAt (held (g .q)) w qs qc
@@ -111,18 +111,18 @@ module _ (ledger : List ℕ) (chosen : ℕ) (f : Marks) (w : ℕ) where
 
       none : (s : Side) → packed (keepFirst k s) (64 * w) 64 ≡ 0 → packed (keepFirst grants s) (64 * w) 64 ≡ 0
       none s q = packed-zero (keepFirst grants s) (64 * w) 64 .1 (λ c a b.
-          let kept : ℕ → Bool = λ j. implies (member j chosen) (keeps (grantIn ledger j) s c) in
+          let kept : ℕ → Bool = λ j. implies (member j chosen) (keeps (marksOf (grantIn ledger j)) s c) in
           gone (f s c) (soundIn ledger k chosen s c) (soundIn ledger grants chosen s c)
           (λ t. every-intro kept k (λ j l. every-elim kept grants t j (omega arith)))
           (packed-zero (keepFirst k s) (64 * w) 64 .0 q c a b))
 
   module _ (k left see change : ℕ) (so-far : SoFar k left see change) where
-    step : (see′ change′ : ℕ) → WordsAt (λ s c. keepFirst k s c && implies (member k chosen) (keeps (grantIn ledger k) s c)) w see′ change′ → SoFar (k + 1) (left / 2) see′ change′
+    step : (see′ change′ : ℕ) → WordsAt (λ s c. keepFirst k s c && implies (member k chosen) (keeps (marksOf (grantIn ledger k)) s c)) w see′ change′ → SoFar (k + 1) (left / 2) see′ change′
     unfolding soundIn every
     step see′ change′ v = record {
       bits = ap (λ (x : ℕ). x / 2) (so-far .bits) ∙ shr-shr chosen k 1;
-      words = words-same (λ s c. keepFirst k s c && implies (member k chosen) (keeps (grantIn ledger k) s c)) (keepFirst (k + 1)) w see′ change′
-          (λ s c. and-assoc (f s c) (soundIn ledger k chosen s c) (implies (member k chosen) (keeps (grantIn ledger k) s c)) ∙ ap (λ (j : ℕ). keepFirst j s c) (sym (add-one k))) v;
+      words = words-same (λ s c. keepFirst k s c && implies (member k chosen) (keeps (marksOf (grantIn ledger k)) s c)) (keepFirst (k + 1)) w see′ change′
+          (λ s c. and-assoc (f s c) (soundIn ledger k chosen s c) (implies (member k chosen) (keeps (marksOf (grantIn ledger k)) s c)) ∙ ap (λ (j : ℕ). keepFirst j s c) (sym (add-one k))) v;
     }
 
     -- the bit is set, and those of the words that keep the grant were taken

@@ -2,14 +2,14 @@
 use words::Words;
 ghost use mathlib.Core.Bool.{_&&_};
 ghost use Rattle.model.specs.Coalitions.{Marks, mark};
-ghost use Rattle.model.specs.Grants.{keeps};
+ghost use Rattle.model.specs.Grants.{marksOf, keeps};
 ghost use Rattle.words.specs.AnyBytes.{grantIn};
 ghost use Rattle.words.specs.Evaluation.{WordsAt};
 ghost use Rattle.soundness.specs.Keeping.{soundIn};
 
 // Those of two words that keep grant k: they hold its q where they hold its p. Where none holds its p there is no need of q.
 fn keep(ledger: &[u8], k: usize, w: u64, of: Words) -> Words
-    ensures { λ r. ⌜ ((f : Marks) → WordsAt f w (of .see) (of .change) → WordsAt (λ s c. f s c && keeps (grantIn (now (ledger .entry)) k) s c) w (r .see) (r .change)) ⌝ }
+    ensures { λ r. ⌜ ((f : Marks) → WordsAt f w (of .see) (of .change) → WordsAt (λ s c. f s c && keeps (marksOf (grantIn (now (ledger .entry)) k)) s c) w (r .see) (r .change)) ⌝ }
 {
     let p = words::words_of(ledgers::grant_p(ledger, k), w);
     let see = of.see & p.see;

@@ -6,7 +6,7 @@ use lib.ListN.{getD}
 use Rattle.model.specs.Sides.{integrity}
 use Rattle.model.specs.Coalitions.{mark, packed}
 use Rattle.model.specs.Terms.{Term, held}
-use Rattle.model.specs.Grants.{Grant}
+use Rattle.model.specs.Grants.{Grant, marksOf, countsUnder}
 use Rattle.model.proofs.Bars.{barsCounting, counts-bars}
 use Rattle.words.specs.Evaluation.{jobOf, wordsOf, ClearTo, WordsAt}
 use Rattle.words.proofs.Names.{words-few, mask-few, count-few}
@@ -17,7 +17,7 @@ use Rattle.counting.proofs.grant_counts.Statement.{statement}
 use Rattle.counting.proofs.grant_counts.Tie as tie
 
 abbrev Inv-loop : tie.InvT-loop
-Inv-loop see change n q d words w₀ w = (words ≡ wordsOf n) × (w ≤ words) × ((L : Term) (g : Grant) → GrantGiven n see change q d L g → ClearTo (jobOf n) (barsCounting L g) w)
+Inv-loop see change n q d words w₀ w = (words ≡ wordsOf n) × (w ≤ words) × ((L : Term) (g : Grant) → GrantGiven n see change q d L g → ClearTo (jobOf n) (barsCounting (held L) (marksOf g)) w)
 
 abbrev μ-loop : tie.MeasureT-loop
 μ-loop see change n q d words w₀ w = words - w
@@ -26,7 +26,7 @@ abbrev μ-loop : tie.MeasureT-loop
 word : (c : tie.After-low-mask Inv-loop μ-loop) → let d = c .before .before .before .before .before .before in let l = d .before .before in let a = l .before .before .before .before .args in (L : Term) (g : Grant)
     → GrantGiven (a .n) (a .see .now) (a .change .now) (a .q .now) (a .d .now) L g
     → barredWord (c .low-mask .result) (getD (a .see .now) (l .loop .w) 0) (getD (a .change .now) (l .loop .w) 0) (d .words-of .result .see) (d .words-of .result .change) (c .before .unspoken .result)
-    ≡ packed (mark (jobOf (a .n)) (barsCounting L g)) (64 * l .loop .w) 64
+    ≡ packed (mark (jobOf (a .n)) (barsCounting (held L) (marksOf g))) (64 * l .loop .w) 64
 word c L g h =
     let d = c .before .before .before .before .before .before in
     let l = d .before .before in
@@ -42,7 +42,7 @@ word-count-requires : tie.Need-word-count-requires Inv-loop μ-loop
 word-count-requires c κs = tt
 
 loop-holds : tie.Need-loop-holds Inv-loop μ-loop
-loop-holds c = (c .word-count .ensures, omega arith, λ L g h. clear-none _ (barsCounting L g))
+loop-holds c = (c .word-count .ensures, omega arith, λ L g h. clear-none _ (barsCounting (held L) (marksOf g)))
 
 words-of-requires : tie.Need-words-of-requires Inv-loop μ-loop
 words-of-requires c κs = tt
@@ -66,9 +66,10 @@ low-mask-requires : tie.Need-low-mask-requires Inv-loop μ-loop
 low-mask-requires c κs = tt
 
 returns : tie.Need-returns Inv-loop μ-loop
+unfolding countsUnder
 returns c L g h =
     let a = c .before .before .before .before .before .before .before .before .before .before .before .before .before .args in
-    clear-not (jobOf (a .n)) (barsCounting L g) _ _ (word (c .before) L g h) (c .if1 .taken) ∙ sym (counts-bars (jobOf (a .n)) L g)
+    clear-not (jobOf (a .n)) (barsCounting (held L) (marksOf g)) _ _ (word (c .before) L g h) (c .if1 .taken) ∙ sym (counts-bars (jobOf (a .n)) (held L) (marksOf g))
 
 add-w : tie.Need-add-w Inv-loop μ-loop
 add-w c = omega (arith, words-few (c .before .before .before .before .before .before .before .before .before .before .before .before .before .args .n))
@@ -79,14 +80,15 @@ loop-less c = omega arith
 loop-again : tie.Need-loop-again Inv-loop μ-loop
 loop-again c =
     let l = c .before .before .before .before .before .before .before .before .before in
-    (l .loop .inv .0, omega arith, λ L g h. clear-more _ (barsCounting L g) _ _ (word (c .before) L g h) (l .loop .inv .2 L g h) (c .if1 .left))
+    (l .loop .inv .0, omega arith, λ L g h. clear-more _ (barsCounting (held L) (marksOf g)) _ _ (word (c .before) L g h) (l .loop .inv .2 L g h) (c .if1 .left))
 
 returns-2 : tie.Need-returns-2 Inv-loop μ-loop
+unfolding countsUnder
 returns-2 c L g h =
     let l = c .before .loop in
     let a = c .before .before .before .before .before .args in
     let all : l .w ≡ wordsOf (jobOf (a .n)) = omega (arith, count-few (a .n)) in
-    clear-all (jobOf (a .n)) (barsCounting L g) (omega arith) (subst (ClearTo (jobOf (a .n)) (barsCounting L g)) all (l .inv .2 L g h)) ∙ sym (counts-bars (jobOf (a .n)) L g)
+    clear-all (jobOf (a .n)) (barsCounting (held L) (marksOf g)) (omega arith) (subst (ClearTo (jobOf (a .n)) (barsCounting (held L) (marksOf g))) all (l .inv .2 L g h)) ∙ sym (counts-bars (jobOf (a .n)) (held L) (marksOf g))
 
 pub grant-counts-spec : {M : Type 1} → statement M
 grant-counts-spec =

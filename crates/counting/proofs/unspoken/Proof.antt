@@ -1,5 +1,6 @@
 -- `counting::unspoken` meets its contract. Assumes nothing.
 use Rattle.model.specs.Sides.{integrity}
+use Rattle.model.specs.Terms.{held}
 use Rattle.model.specs.Grants.{voice}
 use Rattle.words.specs.AnyBytes.{termIn}
 use Rattle.counting.proofs.Tests.{voice-word, none-lacks}
@@ -8,7 +9,7 @@ use Rattle.counting.proofs.unspoken.Statement.{statement}
 use Rattle.counting.proofs.unspoken.Tie as tie
 
 returns : tie.Need-returns
-returns c f e = none-lacks f (voice (termIn (c .before .before .args .q .now)) integrity) _ _ e (c .if1 .taken)
+returns c f e = none-lacks f (voice (held (termIn (c .before .before .args .q .now))) integrity) _ _ e (c .if1 .taken)
 
 words-of-requires : tie.Need-words-of-requires
 words-of-requires c κs = search needs

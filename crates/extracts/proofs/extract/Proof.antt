@@ -7,6 +7,7 @@ use lib.ListN.{length}
 use lib.Seq.{paste}
 use borrow.Author.Needs.{needs}
 use Rattle.model.specs.Coalitions.{Marks}
+use Rattle.model.specs.Grants.{under}
 use Rattle.model.specs.Questions.{soundUnder}
 use Rattle.model.specs.Extracts.{table}
 use Rattle.model.proofs.Table.{table-cong}
@@ -70,7 +71,7 @@ halves : (c : tie.After-mark-sound) → Halves (names (known (accepted c))) (mar
 halves c = c .mark-sound .ensures
 
 -- these are the sound ones
-sound-table : (c : tie.After-mark-sound) → let k = known (accepted c) in table (names k) (marks c) ≡ table (names k) (soundUnder (ledger-of k .ledger) (label-of (accepted c) .term))
+sound-table : (c : tie.After-mark-sound) → let k = known (accepted c) in table (names k) (marks c) ≡ table (names k) (soundUnder (ledger-of k .ledger) (under (names k) (label-of (accepted c) .term)))
 sound-table c =
     let L = label-of (accepted c) in
     table-cong _ _ _ (λ s d _. sound-counted _ _ _ _ _ _ (L .term) (ledger-is (known (accepted c))) (L .is) (c .before .before .before .counted .ensures) s d)

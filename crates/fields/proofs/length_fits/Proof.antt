@@ -1,5 +1,4 @@
 -- `fields::length_fits` meets its contract, by its tests. Assumes nothing.
-use mathlib.Core.Path.{_≡_}
 use borrow.Author.Needs.{needs}
 use borrow.Author.Tests.{eq-eqb, ne-eqb, le-leb, lt-leb}
 use Rattle.fields.proofs.Parts.{multiple-zero}

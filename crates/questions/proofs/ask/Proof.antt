@@ -1,6 +1,7 @@
 -- `questions::ask` meets its contract: the refusals in their order, and the answer where nothing is refused. Assumes nothing.
 use native.Mathlib.Omega.{arith}
-use mathlib.Core.Path.{sym, _∙_}
+use mathlib.Core.Path.{sym, ap, _∙_}
+use Rattle.model.specs.Questions.{answerTo}
 use Rattle.terms.proofs.Accepted.{AcceptedTerm, accepted-term, term-refused, refusal-small}
 use Rattle.ledgers.proofs.Accepted.{AcceptedLedger, accepted-ledger, ledger-refused, ledger-of}
 use Rattle.questions.proofs.Asking.{judged-asked, verdict-answers, ask-ledger, ask-p, ask-q, ask-label, ask-answer}
@@ -125,10 +126,10 @@ returns-5 c =
     let tq = second q in
     let L = third d in
     let a = p .before .before .before .before .before .before .before .before .before .before .before .args in
-    verdict-answers (v .judge .result) _ _ (c .answered .ensures)
-    (v .judge .ensures
+    verdict-answers (v .judge .result) _ (c .answered .ensures)
+    ∙ ap answerTo (v .judge .ensures)
     ∙ judged-asked (a .question) _ _ _ _ _ _ _ (l .ledger) (tp .term) (tq .term) (L .term) (ledger-of _ _ _ l) (tp .is) (tq .is) (L .is) (v .before .counted .ensures)
-    ∙ ask-answer _ _ _ _ _ (l .ledger) _ (l .is) (l .names) (tp .term) (tp .is) (tq .term) (tq .is) (L .term) (L .is))
+    ∙ ask-answer _ _ _ _ _ (l .ledger) _ (l .is) (l .names) (tp .term) (tp .is) (tq .term) (tq .is) (L .term) (L .is)
 
 pub ask-spec : {M : Type 1} → statement M
 ask-spec =

@@ -2,7 +2,7 @@
 -- Assumes nothing.
 use Prim.Native.Nat.{_*_, _-_, _≤_, _<_}
 use native.Mathlib.Omega.{arith}
-use mathlib.Core.Path.{_≡_, ap, _∙_}
+use mathlib.Core.Path.{_≡_, _∙_}
 use Rattle.model.specs.Sides.{confidentiality}
 use Rattle.model.specs.Coalitions.{Marks, nowhere, lowest}
 use Rattle.words.specs.AnyBytes.{termIn}

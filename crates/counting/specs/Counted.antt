@@ -9,7 +9,7 @@ use Rattle.model.specs.Coalitions.{packed}
 use Rattle.model.specs.Terms.{Term}
 use Rattle.model.specs.Grants.{Grant, under, countsUnder}
 use Rattle.words.specs.AnyBytes.{termIn, grantIn}
-use Rattle.words.specs.Evaluation.{jobOf, wordsOf, Tabled}
+use Rattle.words.specs.Evaluation.{jobOf, wordCount, Tabled}
 
 -- there is a grant k, and it counts under the label
 abbrev pub countsIn : List ℕ → ℕ → ℕ → List ℕ → ℕ → Bool
@@ -21,7 +21,7 @@ countedIn ledger n grants label = cond (ltb 64 grants) 0 (packed (countsIn ledge
 
 -- The words of the label that a grant is judged under, in a job of n names, and the bytes of the grant's q and of its label.
 pub record GrantGiven (n : ℕ) (see change q d : List ℕ) (L : Term) (g : Grant) : Type 0 where
-  pub see-words : Tabled L confidentiality (wordsOf n) see
-  pub change-words : Tabled L integrity (wordsOf n) change
+  pub see-words : Tabled L confidentiality (wordCount n) see
+  pub change-words : Tabled L integrity (wordCount n) change
   pub q-is : g .q ≡ termIn q
   pub label-is : g .label ≡ termIn d

@@ -4,7 +4,7 @@ use Rattle.derivations.specs.declared.Checked.{Checked}
 use Rattle.derivations.specs.declared.Checked.the-variants.{Accepted as CheckAccepted, Refused as CheckRefused, RefusedAt as CheckRefusedAt}
 
 -- accepted is the yes of a derivation
-abbrev pub answerOf : Checked → Answer
-answerOf CheckAccepted = Yes
-answerOf (CheckRefused r) = Refused r
-answerOf (CheckRefusedAt step r) = RefusedAt step r
+abbrev pub checkedOf : Checked → Answer
+checkedOf CheckAccepted = Yes
+checkedOf (CheckRefused r) = Refused r
+checkedOf (CheckRefusedAt step r) = RefusedAt step r

@@ -16,7 +16,7 @@ ghost use Rattle.model.specs.Meanings.{grantBits};
 ghost use Rattle.terms.specs.Readings.{termReading};
 ghost use Rattle.ledgers.specs.Readings.{LedgerOf};
 ghost use Rattle.derivations.specs.Steps.{fieldsForm, pastTerm, fillerForm, readField, readStep, premisesBefore, joins, Ready, meetsAt, checkAt, stepCheck, stepRefusal};
-ghost use Rattle.derivations.specs.Answers.{answerOf};
+ghost use Rattle.derivations.specs.Answers.{checkedOf};
 
 // The two are the same, byte for byte.
 fn same(a: &[u8], b: &[u8]) -> bool
@@ -426,7 +426,7 @@ pub enum Checked {
 // The steps, one after another.
 fn check_steps(derivation: &[u8], ledger: &[u8], n: u64, grants: usize, counted: u64) -> Checked
     requires { ⌜ length (now derivation) ≤ 8704 ⌝ }
-    ensures { λ r. ⌜ ((l : Ledger) (f : Grant → Bool) → LedgerOf (now (ledger .entry)) n grants l → counted ≡ grantBits f (l .grants) → answerOf r ≡ checkSteps l f (now (derivation .entry)) 0 (stepCount (now (derivation .entry)))) ⌝ }
+    ensures { λ r. ⌜ ((l : Ledger) (f : Grant → Bool) → LedgerOf (now (ledger .entry)) n grants l → counted ≡ grantBits f (l .grants) → checkedOf r ≡ checkSteps l f (now (derivation .entry)) 0 (stepCount (now (derivation .entry)))) ⌝ }
 {
     let steps = derivation.len() / 136;
     let mut k: usize = 0;
@@ -442,7 +442,7 @@ fn check_steps(derivation: &[u8], ledger: &[u8], n: u64, grants: usize, counted:
 
 // Checks a derivation. The grants that count are judged once.
 pub fn check_derivation(derivation: &[u8], ledger: &[u8], label: &[u8]) -> Checked
-    ensures { λ r. ⌜ answerOf r ≡ checkDerivation (now (derivation .entry)) (now (ledger .entry)) (now (label .entry)) ⌝ }
+    ensures { λ r. ⌜ checkedOf r ≡ checkDerivation (now (derivation .entry)) (now (ledger .entry)) (now (label .entry)) ⌝ }
 {
     let reading = ledgers::read_ledger(ledger);
     let LedgerReading::Accepted { names: n, grants } = reading else {

@@ -13,7 +13,7 @@ use Rattle.model.specs.Sides.{confidentiality, integrity}
 use Rattle.model.specs.Coalitions.{Marks, mark, packed}
 use Rattle.model.specs.Extracts.{packedBytes}
 use Rattle.model.proofs.Table.{length-packed}
-use Rattle.words.specs.Evaluation.{wordsOf}
+use Rattle.words.specs.Evaluation.{wordCount}
 use Rattle.words.proofs.Packing.{packed-zero}
 use Rattle.words.proofs.Names.{words-enough, words-few, words-most}
 use Rattle.extracts.specs.Halves.{littleEndian, blank, Halves}
@@ -69,17 +69,17 @@ module _ (half next : List ℕ) (w word : ℕ) (h : w < 64) (put : next ≡ past
   turn-half f e i = put ∙ ap₂ (λ (l : List ℕ) (x : ℕ). paste l (8 * w) (littleEndian 8 x) 8) i e ∙ half-more f w h
 
 -- no coalition of n names stands past their words, or these fill the half
-past-words : (n c : ℕ) → 64 * wordsOf n ≤ c → c < 4096 → 2 ^ n ≤ c
+past-words : (n c : ℕ) → 64 * wordCount n ≤ c → c < 4096 → 2 ^ n ≤ c
 past-words n c a b = elim (decLt 12 n) [
   | yes l ↦ absurd (omega (arith, words-most n (le-of-lt l)))
   | no l ↦ omega (arith, words-enough n (omega arith))
 ]
 
 -- all words of n names: from 2^n up all bits are clear
-pub half-end : (n : ℕ) (f : ℕ → Bool) → halfTo (mark n f) (wordsOf n) ≡ packedBytes (mark n f) 0 512
+pub half-end : (n : ℕ) (f : ℕ → Bool) → halfTo (mark n f) (wordCount n) ≡ packedBytes (mark n f) 0 512
 unfolding halfTo mark
 half-end n f =
-    let w = wordsOf n in
+    let w = wordCount n in
     let few = words-few n in
     let k : 8 * w + (512 - 8 * w) ≡ 512 = omega arith in
     ap (λ (l : List ℕ). packedBytes (mark n f) 0 (8 * w) ++ l)
@@ -97,7 +97,7 @@ filled-start n S see change a b = record {
   change-half = b ∙ half-start (mark n (S integrity));
 }
 
-pub filled-end : (n : ℕ) (S : Marks) (w : ℕ) (see change : List ℕ) → w ≡ wordsOf n → Filled n S w see change → Halves n S see change
+pub filled-end : (n : ℕ) (S : Marks) (w : ℕ) (see change : List ℕ) → w ≡ wordCount n → Filled n S w see change → Halves n S see change
 filled-end n S w see change e f = record {
   see-half = f .see-half ∙ ap (halfTo (mark n (S confidentiality))) e ∙ half-end n (S confidentiality);
   change-half = f .change-half ∙ ap (halfTo (mark n (S integrity))) e ∙ half-end n (S integrity);

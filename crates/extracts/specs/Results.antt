@@ -6,10 +6,10 @@ use Rattle.extracts.specs.declared.Extracted.{Extracted}
 use Rattle.extracts.specs.declared.Extracted.the-variants.{Written, Refused as RefusedExtract}
 
 -- written is what yes is
-abbrev pub extractAnswer : Extracted → Answer
-extractAnswer Written = Yes
-extractAnswer (RefusedExtract r) = Refused r
+abbrev pub extractedOf : Extracted → Answer
+extractedOf Written = Yes
+extractedOf (RefusedExtract r) = Refused r
 
 -- a call's answer, and the bytes of the buffer afterwards
-abbrev pub outcome : Extracted → List ℕ → Outcome
-outcome e bytes = record { answer = extractAnswer e; buffer = bytes }
+abbrev pub outcomeOf : Extracted → List ℕ → Outcome
+outcomeOf e bytes = record { answer = extractedOf e; buffer = bytes }

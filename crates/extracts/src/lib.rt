@@ -8,7 +8,7 @@ ghost use lib.Seq.{paste};
 ghost use Rattle.model.specs.Extracts.{extract};
 ghost use Rattle.soundness.specs.Keeping.{soundIn};
 ghost use Rattle.extracts.specs.Halves.{littleEndian, blank, Halves};
-ghost use Rattle.extracts.specs.Results.{outcome};
+ghost use Rattle.extracts.specs.Results.{outcomeOf};
 
 // Bytes 8 × w to 8 × w + 7 of a half become those of a word of marks, lowest first: coalition c is bit c mod 8 of byte c div 8.
 fn put_word(half: &mut [u8; 512], w: usize, word: u64)
@@ -66,7 +66,7 @@ pub enum Extracted {
 
 // Writes the extract of a ledger under a label. The buffer is written once nothing can be refused any more.
 pub fn extract(ledger: &[u8], label: &[u8], buffer: &mut [u8]) -> Extracted
-    ensures { λ r. ⌜ outcome r (now (buffer .exit)) ≡ extract (now (ledger .entry)) (now (label .entry)) (now (buffer .entry)) ⌝ }
+    ensures { λ r. ⌜ outcomeOf r (now (buffer .exit)) ≡ extract (now (ledger .entry)) (now (label .entry)) (now (buffer .entry)) ⌝ }
 {
     if buffer.len() != 1024 {
         return Extracted::Refused(51);

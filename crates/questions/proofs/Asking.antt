@@ -17,21 +17,21 @@ use Rattle.counting.specs.Counted.{countedIn}
 use Rattle.counting.proofs.Accepted.{names-few}
 use Rattle.soundness.specs.Keeping.{soundIn}
 use Rattle.soundness.proofs.Accepted.{sound-counted}
-use Rattle.questions.specs.declared.Question.{Question}
+use Rattle.questions.specs.declared.Relation.{Relation}
 use Rattle.questions.specs.declared.Answer.{Answer as Answered}
 use Rattle.questions.specs.declared.Verdict.{Verdict}
 use Rattle.questions.specs.declared.Verdict.the-variants.{Holds, Refuted}
-use Rattle.questions.specs.Answers.{answerOf, questionOf}
+use Rattle.questions.specs.Answers.{answerOf, relationOf}
 use Rattle.questions.specs.Searching.{verdictOf, verdictAnswer, judgeOf}
 use Rattle.questions.proofs.Refuting.{judged-under}
 
 -- what is judged on bytes that are accepted is what the question answers
-pub judged-asked : (question : Question) (ledger p q label : List ℕ) (n grants counted : ℕ) (l : Ledger) (tp tq L : Term) → LedgerOf ledger n grants l
+pub judged-asked : (relation : Relation) (ledger p q label : List ℕ) (n grants counted : ℕ) (l : Ledger) (tp tq L : Term) → LedgerOf ledger n grants l
     → readTerm n p ≡ accepted tp → readTerm n q ≡ accepted tq → readTerm n label ≡ accepted L → counted ≡ countedIn ledger n grants label
-    → answerTo (judgeOf question (jobOf n) (soundIn ledger grants counted) (termIn p) (termIn q)) ≡ questionOf question l (under n L) tp tq
-judged-asked question ledger p q label n grants counted l tp tq L of a b c e =
+    → answerTo (judgeOf relation (jobOf n) (soundIn ledger grants counted) (termIn p) (termIn q)) ≡ relationOf relation l (under n L) tp tq
+judged-asked relation ledger p q label n grants counted l tp tq L of a b c e =
     rw (job-is n (names-few ledger n grants l of), term-in n p tp a, term-in n q tq b)
-    (judged-under question n l (under n L) tp tq _ (of .names) (sound-counted ledger label n grants counted l L of c e))
+    (judged-under relation n l (under n L) tp tq _ (of .names) (sound-counted ledger label n grants counted l L of c e))
 
 -- a verdict's answer is what the verdict stands for
 pub verdict-answers : (v : Verdict) (r : Answered) → r ≡ verdictAnswer v → answerOf r ≡ answerTo (verdictOf v)

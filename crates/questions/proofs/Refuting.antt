@@ -15,9 +15,9 @@ use Rattle.model.proofs.Judge.{judge-cong}
 use Rattle.words.specs.Evaluation.{coalitionWord, jobOf, WordsAt}
 use Rattle.words.proofs.Packing.{packed-and, packed-lacks}
 use Rattle.words.proofs.Names.{few-coalitions}
-use Rattle.questions.specs.declared.Question.{Question}
-use Rattle.questions.specs.declared.Question.the-variants.{ActsFor, FlowsTo}
-use Rattle.questions.specs.Answers.{questionOf}
+use Rattle.questions.specs.declared.Relation.{Relation}
+use Rattle.questions.specs.declared.Relation.the-variants.{ActsFor, FlowsTo}
+use Rattle.questions.specs.Answers.{relationOf}
 use Rattle.questions.specs.Searching.{fromOf, toOf, judgeOf, opposedOf, refutersOf}
 
 -- of the coalitions of n names, those of f and not of g
@@ -42,9 +42,9 @@ module _ (n : ℕ) (p q : Term) (w mask ps pc qs qc : ℕ) (m : mask ≡ coaliti
   }
 
 -- in the words that a job has, those that are opposed and sound refute
-pub refuters-are : (question : Question) (n : ℕ) (S : Marks) (p q : Term) (s : Side) (c : ℕ) → c < 4096 → (opposedOf question n p q s c && S s c) ≡ refutersOf question n S p q s c
+pub refuters-are : (relation : Relation) (n : ℕ) (S : Marks) (p q : Term) (s : Side) (c : ℕ) → c < 4096 → (opposedOf relation n p q s c && S s c) ≡ refutersOf relation n S p q s c
 unfolding mark refutes
-refuters-are question n S p q s c h = rw (few-coalitions n c h) (turn (ltb c (2 ^ jobOf n)) (fromOf question p q s c && not (toOf question p q s c)) (S s c))
+refuters-are relation n S p q s c h = rw (few-coalitions n c h) (turn (ltb c (2 ^ jobOf n)) (fromOf relation p q s c && not (toOf relation p q s c)) (S s c))
   where
     turn : (a b d : Bool) → ((a && b) && d) ≡ (a && (d && b))
     turn false b d = refl
@@ -54,8 +54,8 @@ refuters-are question n S p q s c h = rw (few-coalitions n c h) (turn (ltb c (2 
     turn true true false = refl
 
 -- what is judged of a ledger and a label: marks that agree are judged alike
-pub judged-under : (question : Question) (n : ℕ) (l : Ledger) (u : Under) (p q : Term) (S : Marks) → n ≡ l .names → ((s : Side) (c : ℕ) → S s c ≡ soundUnder l u s c)
-    → answerTo (judgeOf question n S p q) ≡ questionOf question l u p q
+pub judged-under : (relation : Relation) (n : ℕ) (l : Ledger) (u : Under) (p q : Term) (S : Marks) → n ≡ l .names → ((s : Side) (c : ℕ) → S s c ≡ soundUnder l u s c)
+    → answerTo (judgeOf relation n S p q) ≡ relationOf relation l u p q
 unfolding actsForUnder flowsToUnder
 judged-under ActsFor n l u p q S e h = ap answerTo (judge-cong n S (soundUnder l u) (held p) (held q) (λ s c _. h s c)) ∙ rw e
 judged-under FlowsTo n l u p q S e h = ap answerTo (judge-cong n S (soundUnder l u) (across q p) (across p q) (λ s c _. h s c)) ∙ rw e

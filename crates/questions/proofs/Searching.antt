@@ -9,11 +9,11 @@ use Rattle.model.specs.Coalitions.{member, Marks, Lowest, nowhere, at, lowest, 
 use Rattle.model.specs.Terms.{Term}
 use Rattle.model.specs.Questions.{holds, refuted, refutes, ground, judge}
 use Rattle.model.proofs.Packed.{own-bits}
-use Rattle.words.specs.Evaluation.{jobOf, wordsOf, WordsAt, LowestBit}
+use Rattle.words.specs.Evaluation.{jobOf, wordCount, WordsAt, LowestBit}
 use Rattle.words.proofs.Names.{count-few}
 use Rattle.words.proofs.Packing.{packed-cong, packed-none, packed-lowest}
 use Rattle.words.proofs.Searches.{lowest-kept, lowest-past, lowest-found, lowest-zero, lowest-all}
-use Rattle.questions.specs.declared.Question.{Question}
+use Rattle.questions.specs.declared.Relation.{Relation}
 use Rattle.questions.specs.declared.Verdict.{Verdict}
 use Rattle.questions.specs.declared.Verdict.the-variants.{Holds, Refuted}
 use Rattle.questions.specs.Answers.{sideOf}
@@ -106,22 +106,22 @@ found-see R w x m clear e nonzero h =
     rw (here, lowest-kept f (64 * (w + 1)) m _ here h)
 
 -- all words of a job searched
-module _ (question : Question) (n : ℕ) (S : Marks) (p q : Term) where
-  pub found-all : foundTo (refutersOf question n S p q) (64 * wordsOf n) ≡ judgeOf question (jobOf n) S p q
+module _ (relation : Relation) (n : ℕ) (S : Marks) (p q : Term) where
+  pub found-all : foundTo (refutersOf relation n S p q) (64 * wordCount n) ≡ judgeOf relation (jobOf n) S p q
   unfolding judge
   found-all =
-      let R : Marks = refutes S (fromOf question p q) (toOf question p q) in
-      let k : 64 * wordsOf (jobOf n) ≡ 64 * wordsOf n = ap (λ (x : ℕ). 64 * x) (count-few n) in
+      let R : Marks = refutes S (fromOf relation p q) (toOf relation p q) in
+      let k : 64 * wordCount (jobOf n) ≡ 64 * wordCount n = ap (λ (x : ℕ). 64 * x) (count-few n) in
       rw (← k) (ap₂ ground (lowest-all (jobOf n) (R confidentiality) (omega arith)) (lowest-all (jobOf n) (R integrity) (omega arith)))
 
   -- the words of those that can still decide and are sound
-  pub deciding-words : (found : Verdict) (w see change : ℕ) → w < 64 → WordsAt (λ s c. stillOf found (opposedOf question n p q) s c && S s c) w see change
-      → WordsAt (stillOf found (refutersOf question n S p q)) w see change
+  pub deciding-words : (found : Verdict) (w see change : ℕ) → w < 64 → WordsAt (λ s c. stillOf found (opposedOf relation n p q) s c && S s c) w see change
+      → WordsAt (stillOf found (refutersOf relation n S p q)) w see change
   deciding-words Holds w see change below h = record {
-    see-word = h .see-word ∙ packed-cong _ _ (64 * w) 64 (λ c _ l. refuters-are question n S p q confidentiality c (omega arith));
-    change-word = h .change-word ∙ packed-cong _ _ (64 * w) 64 (λ c _ l. refuters-are question n S p q integrity c (omega arith));
+    see-word = h .see-word ∙ packed-cong _ _ (64 * w) 64 (λ c _ l. refuters-are relation n S p q confidentiality c (omega arith));
+    change-word = h .change-word ∙ packed-cong _ _ (64 * w) 64 (λ c _ l. refuters-are relation n S p q integrity c (omega arith));
   }
   deciding-words (Refuted s c) w see change below h = record {
-    see-word = h .see-word ∙ packed-cong _ _ (64 * w) 64 (λ c _ l. refuters-are question n S p q confidentiality c (omega arith));
+    see-word = h .see-word ∙ packed-cong _ _ (64 * w) 64 (λ c _ l. refuters-are relation n S p q confidentiality c (omega arith));
     change-word = h .change-word;
   }

@@ -10,8 +10,8 @@ use Rattle.questions.specs.declared.Side.{Side}
 use Rattle.questions.specs.declared.Side.the-variants.{See, Change}
 use Rattle.questions.specs.declared.Answer.{Answer}
 use Rattle.questions.specs.declared.Answer.the-variants.{Yes, No, Refused}
-use Rattle.questions.specs.declared.Question.{Question}
-use Rattle.questions.specs.declared.Question.the-variants.{ActsFor, FlowsTo}
+use Rattle.questions.specs.declared.Relation.{Relation}
+use Rattle.questions.specs.declared.Relation.the-variants.{ActsFor, FlowsTo}
 
 -- the see side is confidentiality, the change side integrity
 abbrev pub sideOf : Side → ModelSide
@@ -25,6 +25,6 @@ answerOf (No s c) = model.No (sideOf s) c
 answerOf (Refused r) = model.Refused r
 
 -- what the question answers of a ledger and a label
-abbrev pub questionOf : Question → Ledger → Under → Term → Term → model.Answer
-questionOf ActsFor = actsForUnder
-questionOf FlowsTo = flowsToUnder
+abbrev pub relationOf : Relation → Ledger → Under → Term → Term → model.Answer
+relationOf ActsFor = actsForUnder
+relationOf FlowsTo = flowsToUnder

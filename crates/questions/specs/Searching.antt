@@ -12,8 +12,8 @@ use Rattle.model.specs.Questions.{refutes, ground, judge, across}
 use Rattle.words.specs.Evaluation.{jobOf, WordsAt}
 use Rattle.questions.specs.declared.Answer.{Answer}
 use Rattle.questions.specs.declared.Answer.the-variants.{Yes, No}
-use Rattle.questions.specs.declared.Question.{Question}
-use Rattle.questions.specs.declared.Question.the-variants.{ActsFor, FlowsTo}
+use Rattle.questions.specs.declared.Relation.{Relation}
+use Rattle.questions.specs.declared.Relation.the-variants.{ActsFor, FlowsTo}
 use Rattle.questions.specs.declared.Verdict.{Verdict}
 use Rattle.questions.specs.declared.Verdict.the-variants.{Holds, Refuted}
 use Rattle.questions.specs.Answers.{sideOf}
@@ -29,25 +29,25 @@ verdictAnswer Holds = Yes
 verdictAnswer (Refuted s c) = No s c
 
 -- a coalition that refutes is one of the first and none of the second
-abbrev pub fromOf : Question → Term → Term → Marks
+abbrev pub fromOf : Relation → Term → Term → Marks
 fromOf ActsFor p q = held p
 fromOf FlowsTo p q = across q p
 
-abbrev pub toOf : Question → Term → Term → Marks
+abbrev pub toOf : Relation → Term → Term → Marks
 toOf ActsFor p q = held q
 toOf FlowsTo p q = across p q
 
 -- what is judged, S being the sound coalitions
-abbrev pub judgeOf : Question → ℕ → Marks → Term → Term → model.Verdict
-judgeOf question n S p q = judge n S (fromOf question p q) (toOf question p q)
+abbrev pub judgeOf : Relation → ℕ → Marks → Term → Term → model.Verdict
+judgeOf relation n S p q = judge n S (fromOf relation p q) (toOf relation p q)
 
 -- of the coalitions of n names, those that refute if they are sound
-abbrev pub opposedOf : Question → ℕ → Term → Term → Marks
-opposedOf question n p q s c = ltb c (2 ^ n) && (fromOf question p q s c && not (toOf question p q s c))
+abbrev pub opposedOf : Relation → ℕ → Term → Term → Marks
+opposedOf relation n p q s c = ltb c (2 ^ n) && (fromOf relation p q s c && not (toOf relation p q s c))
 
 -- of the coalitions of a job of n names, those that refute
-abbrev pub refutersOf : Question → ℕ → Marks → Term → Term → Marks
-refutersOf question n S p q s = mark (jobOf n) (refutes S (fromOf question p q) (toOf question p q) s)
+abbrev pub refutersOf : Relation → ℕ → Marks → Term → Term → Marks
+refutersOf relation n S p q s = mark (jobOf n) (refutes S (fromOf relation p q) (toOf relation p q) s)
 
 -- r is the lowest coalition of f in word w, where f has none below it
 abbrev pub LowestIn : (ℕ → Bool) → ℕ → ℕ → ℕ → Type 0

@@ -10,7 +10,7 @@ ghost use Rattle.model.specs.Questions.{ask, actsFor, flowsTo};
 ghost use Rattle.words.specs.AnyBytes.{termIn};
 ghost use Rattle.words.specs.Evaluation.{jobOf, WordsAt};
 ghost use Rattle.soundness.specs.Keeping.{soundIn};
-ghost use Rattle.questions.specs.Answers.{answerOf, questionOf};
+ghost use Rattle.questions.specs.Answers.{answerOf, relationOf};
 ghost use Rattle.questions.specs.Searching.{opposedOf, judgeOf, verdictOf, verdictAnswer, stillOf, LowestIn, Deciding, foundTo};
 
 pub enum Side {
@@ -35,25 +35,25 @@ pub enum Answer {
 }
 
 // Which question: on the see side flows-to asks the other way round.
-pub enum Question {
+pub enum Relation {
     ActsFor,
     FlowsTo,
 }
 
 // Word w of the coalitions of n names that refute, were they sound: those that hold p and not q, and for flows-to, on the see side, q and not p.
-pub fn opposed(question: Question, n: u64, p: &[u8], q: &[u8], w: u64) -> Words
-    ensures { λ r. ⌜ WordsAt (opposedOf question n (termIn (now (p .entry))) (termIn (now (q .entry)))) w (r .see) (r .change) ⌝ }
+pub fn opposed(relation: Relation, n: u64, p: &[u8], q: &[u8], w: u64) -> Words
+    ensures { λ r. ⌜ WordsAt (opposedOf relation n (termIn (now (p .entry))) (termIn (now (q .entry)))) w (r .see) (r .change) ⌝ }
 {
     let mask = words::low_mask(n, w);
     let from = words::words_of(p, w);
     let to = words::words_of(q, w);
     let change = mask & (from.change & !to.change);
-    match question {
-        Question::ActsFor => Words {
+    match relation {
+        Relation::ActsFor => Words {
             see: mask & (from.see & !to.see),
             change: change,
         },
-        Question::FlowsTo => Words {
+        Relation::FlowsTo => Words {
             see: mask & (to.see & !from.see),
             change: change,
         },
@@ -95,7 +95,7 @@ pub fn further(found: Verdict, w: u64, left: Words) -> Verdict
 
 // The first refuter: on the see side, else on the change side, whose first one is kept while the see side is searched to its end.
 fn judge(
-    question: Question,
+    relation: Relation,
     ledger: &[u8],
     n: u64,
     grants: usize,
@@ -103,13 +103,13 @@ fn judge(
     p: &[u8],
     q: &[u8],
 ) -> Verdict
-    ensures { λ r. ⌜ verdictOf r ≡ judgeOf question (jobOf n) (soundIn (now (ledger .entry)) grants counted) (termIn (now (p .entry))) (termIn (now (q .entry))) ⌝ }
+    ensures { λ r. ⌜ verdictOf r ≡ judgeOf relation (jobOf n) (soundIn (now (ledger .entry)) grants counted) (termIn (now (p .entry))) (termIn (now (q .entry))) ⌝ }
 {
     let words = words::word_count(n);
     let mut found = Verdict::Holds;
     let mut w: u64 = 0;
     while w < words {
-        let both = still(found, opposed(question, n, p, q, w));
+        let both = still(found, opposed(relation, n, p, q, w));
         let against = soundness::keep_all(ledger, grants, counted, w, both);
         found = further(found, w, against);
         if against.see != 0 {
@@ -131,8 +131,8 @@ fn answered(verdict: Verdict) -> Answer
 }
 
 // A question on bytes: the ledger's refusals, then p's, q's and the label's.
-fn ask(question: Question, ledger: &[u8], p: &[u8], q: &[u8], label: &[u8]) -> Answer
-    ensures { λ r. ⌜ answerOf r ≡ ask (questionOf question) (now (ledger .entry)) (now (p .entry)) (now (q .entry)) (now (label .entry)) ⌝ }
+fn ask(relation: Relation, ledger: &[u8], p: &[u8], q: &[u8], label: &[u8]) -> Answer
+    ensures { λ r. ⌜ answerOf r ≡ ask (relationOf relation) (now (ledger .entry)) (now (p .entry)) (now (q .entry)) (now (label .entry)) ⌝ }
 {
     let book = ledgers::read_ledger(ledger);
     let LedgerReading::Accepted { names, grants } = book else {
@@ -151,19 +151,19 @@ fn ask(question: Question, ledger: &[u8], p: &[u8], q: &[u8], label: &[u8]) -> A
         return Answer::Refused(40 + terms::term_refusal(third));
     };
     let counted = counting::counted(ledger, names, grants, label);
-    answered(judge(question, ledger, names, grants, counted, p, q))
+    answered(judge(relation, ledger, names, grants, counted, p, q))
 }
 
 // Does p act for q under the label?
 pub fn acts_for(ledger: &[u8], p: &[u8], q: &[u8], label: &[u8]) -> Answer
     ensures { λ r. ⌜ answerOf r ≡ actsFor (now (ledger .entry)) (now (p .entry)) (now (q .entry)) (now (label .entry)) ⌝ }
 {
-    ask(Question::ActsFor, ledger, p, q, label)
+    ask(Relation::ActsFor, ledger, p, q, label)
 }
 
 // Does p flow to q under the label?
 pub fn flows_to(ledger: &[u8], p: &[u8], q: &[u8], label: &[u8]) -> Answer
     ensures { λ r. ⌜ answerOf r ≡ flowsTo (now (ledger .entry)) (now (p .entry)) (now (q .entry)) (now (label .entry)) ⌝ }
 {
-    ask(Question::FlowsTo, ledger, p, q, label)
+    ask(Relation::FlowsTo, ledger, p, q, label)
 }

@@ -12,7 +12,7 @@ ghost use Rattle.model.specs.Extracts.{extract};
 ghost use Rattle.model.specs.ShortForms.{shorten};
 ghost use Rattle.model.specs.Derivations.{checkDerivation};
 ghost use Rattle.questions.specs.Answers.{answerOf};
-ghost use Rattle.derivations.specs.Answers.{answerOf as checkedOf};
+ghost use Rattle.derivations.specs.Answers.{checkedOf};
 
 // An answer as the one number that it is to C.
 fn answer_number(answer: Answer) -> u32

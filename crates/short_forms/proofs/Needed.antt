@@ -15,7 +15,7 @@ use Rattle.model.proofs.Search.{every-elim, every-intro}
 use Rattle.model.proofs.Monotone.{NoneLess, member-le, held-monotone, minimal-says}
 use Rattle.model.proofs.Listed.{those-cong}
 use Rattle.model.proofs.Packed.{member-packed}
-use Rattle.words.specs.Evaluation.{wordsOf, Tabled}
+use Rattle.words.specs.Evaluation.{wordCount, Tabled}
 use Rattle.words.proofs.Names.{words-enough, shifted}
 use Rattle.short_forms.specs.Listings.{marked, irredundant, listing}
 
@@ -47,7 +47,7 @@ module _ (n : ℕ) (f : ℕ → Bool) (c : ℕ) where
   )
 
 -- the table of a term of n names marks the coalitions that hold it
-tabled-marks : (s : Side) (words : List ℕ) (n : ℕ) (t : Term) → n ≤ 12 → Tabled t s (wordsOf n) words → (c : ℕ) → c < 2 ^ n → marked words c ≡ held t s c
+tabled-marks : (s : Side) (words : List ℕ) (n : ℕ) (t : Term) → n ≤ 12 → Tabled t s (wordCount n) words → (c : ℕ) → c < 2 ^ n → marked words c ≡ held t s c
 unfolding marked
 tabled-marks s words n t h done c l =
     ap (member (c % 64)) (done .word (c / 64) (omega (arith, words-enough n h)))
@@ -55,7 +55,7 @@ tabled-marks s words n t h done c l =
     ∙ ap (held t s) (omega arith)
 
 -- the table's listing is the term's
-pub listing-listed : (s : Side) (words : List ℕ) (n : ℕ) (t : Term) → n ≤ 12 → NamesBelow n t → Tabled t s (wordsOf n) words
+pub listing-listed : (s : Side) (words : List ℕ) (n : ℕ) (t : Term) → n ≤ 12 → NamesBelow n t → Tabled t s (wordCount n) words
     → listing n (irredundant n (marked words)) ≡ listed n (held t s)
 unfolding listing listed
 listing-listed s words n t h b done = rw (those-cong (irredundant n (marked words)) (minimal n (held t s)) 0 (2 ^ n) (λ c z l. same c (omega arith)))

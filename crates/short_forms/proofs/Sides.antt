@@ -15,7 +15,7 @@ use Rattle.model.specs.Terms.{Term, NamesBelow, held}
 use Rattle.model.specs.ShortForms.{pairs, shortForm}
 use Rattle.model.proofs.Listed.{those-add, those-cong, those-marks, length-marks, pairs-append, length-pairs, length-counted}
 use Rattle.model.proofs.Packed.{member-packed}
-use Rattle.words.specs.Evaluation.{LowestBit, Tabled, coalitionWord, wordsOf}
+use Rattle.words.specs.Evaluation.{LowestBit, Tabled, coalitionWord, wordCount}
 use Rattle.words.proofs.Names.{words-enough}
 use Rattle.words.proofs.Searches.{packed-mark}
 use Rattle.short_forms.specs.Listings.{marked, bitsOf, irredundant, listing, FrontWritten}
@@ -130,11 +130,11 @@ module _ {n : ℕ} {f : ℕ → Bool} {before now : List ℕ} {at w : ℕ} (room
         }
 
   -- all words are listed: the count goes before them
-  pub side-whole : n ≤ 12 → w ≡ wordsOf n → (after : List ℕ) → FrontWritten (bigEndian ((at - 2) / 2)) now after 2 → FrontWritten (listing n f) before after at
+  pub side-whole : n ≤ 12 → w ≡ wordCount n → (after : List ℕ) → FrontWritten (bigEndian ((at - 2) / 2)) now after 2 → FrontWritten (listing n f) before after at
   unfolding listing
   side-whole h last after count =
       let all = those f 0 (2 ^ n) in
-      let marks : those (mark n f) 0 (64 * w) ≡ all = ap (λ (k : ℕ). those (mark n f) 0 (64 * k)) last ∙ those-marks n f (64 * wordsOf n) (words-enough n h) in
+      let marks : those (mark n f) 0 (64 * w) ≡ all = ap (λ (k : ℕ). those (mark n f) 0 (64 * k)) last ∙ those-marks n f (64 * wordCount n) (words-enough n h) in
       let written = front-same (ap (λ (l : List ℕ). take 2 before ++ pairs l) marks) (done .front) in
       let number : (at - 2) / 2 ≡ length all = omega (arith, done .place, ap length marks) in
       let size : at ≡ length (listing n f) = omega (arith, done .place, ap length marks, length-pairs all) in
@@ -151,7 +151,7 @@ listing-few n f w = omega (arith, w .size, length-counted f (2 ^ n))
 -- ---- both sides
 
 pub sides-written : {n : ℕ} {t : Term} {see change before now part : List ℕ} {i j : ℕ} → n ≤ 12 → NamesBelow n t
-    → Tabled t confidentiality (wordsOf n) see → Tabled t integrity (wordsOf n) change
+    → Tabled t confidentiality (wordCount n) see → Tabled t integrity (wordCount n) change
     → FrontWritten (listing n (irredundant n (marked see))) before now i
     → FrontWritten (listing n (irredundant n (marked change))) (take (length now - i) (drop i now)) part j
     → FrontWritten (shortForm n (held t)) before (take i now ++ (part ++ drop (length now - i) (drop i now))) (i + j)

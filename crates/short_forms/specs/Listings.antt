@@ -15,13 +15,13 @@ use Rattle.short_forms.specs.declared.ShortForm.{ShortForm}
 use Rattle.short_forms.specs.declared.ShortForm.the-variants.{Written, Refused}
 
 -- what each case of the answer is in document 01
-abbrev pub answerOf : ShortForm → Answer
-answerOf (Written k) = answers.Written k
-answerOf (Refused r) = answers.Refused r
+abbrev pub formOf : ShortForm → Answer
+formOf (Written k) = answers.Written k
+formOf (Refused r) = answers.Refused r
 
 -- the answer, and the lent buffer afterwards
 abbrev pub outcomeOf : ShortForm → List ℕ → Outcome
-outcomeOf r after = record { answer = answerOf r; buffer = after }
+outcomeOf r after = record { answer = formOf r; buffer = after }
 
 -- the mark of coalition c in a table of words: bit c mod 64 of word c div 64
 unfoldable pub marked : List ℕ → ℕ → Bool

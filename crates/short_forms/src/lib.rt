@@ -6,7 +6,7 @@ ghost use lib.ListN.{length};
 ghost use Rattle.model.specs.Bytes.{bigEndian};
 ghost use Rattle.model.specs.Coalitions.{packed};
 ghost use Rattle.model.specs.ShortForms.{pairs, shorten};
-ghost use Rattle.words.specs.Evaluation.{wordsOf};
+ghost use Rattle.words.specs.Evaluation.{wordCount};
 ghost use Rattle.short_forms.specs.Listings.{outcomeOf, marked, markedWithout, irredundant, bitsOf, listing, FrontWritten, ShortWritten};
 
 pub enum ShortForm {
@@ -85,7 +85,7 @@ fn list_word(word: u64, first: usize, buffer: &mut [u8]) -> usize
 // Writes one side to the front of the buffer: its minimal coalitions, and then, before them, how many they are. The mask takes
 // away the bits of word 0 that are no coalition of fewer than six names.
 fn list_side(marks: &[u64], n: u64, buffer: &mut [u8]) -> usize
-    requires { ⌜ (n ≤ 12) × (wordsOf n ≤ length (now marks)) × (2 + 2 * 2 ^ n ≤ length (now buffer)) ⌝ }
+    requires { ⌜ (n ≤ 12) × (wordCount n ≤ length (now marks)) × (2 + 2 * 2 ^ n ≤ length (now buffer)) ⌝ }
     ensures { λ r. ⌜ FrontWritten (listing n (irredundant n (marked (now (marks .entry))))) (now (buffer .entry)) (now (buffer .exit)) r ⌝ }
 {
     let count = words::word_count(n);

@@ -23,8 +23,8 @@ abbrev pub jobOf : ℕ → ℕ
 jobOf n = min n 12
 
 -- How many words the coalitions of a job of n names take: the least that hold 2^n bits.
-abbrev pub wordsOf : ℕ → ℕ
-wordsOf n = 2 ^ (jobOf n - 6)
+abbrev pub wordCount : ℕ → ℕ
+wordCount n = 2 ^ (jobOf n - 6)
 
 -- f holds at no coalition of n names in the words before w
 abbrev pub ClearTo : ℕ → (ℕ → Bool) → ℕ → Type 0

@@ -4,7 +4,7 @@ ghost use Prim.Native.Nat.{_*_, _<_};
 ghost use Rattle.model.specs.Sides.{confidentiality, integrity};
 ghost use Rattle.model.specs.Coalitions.{member, packed};
 ghost use Rattle.words.specs.AnyBytes.{termIn};
-ghost use Rattle.words.specs.Evaluation.{coalitionWord, wordsOf, Evaluated, EvaluatedTo, LowestBit};
+ghost use Rattle.words.specs.Evaluation.{coalitionWord, wordCount, Evaluated, EvaluatedTo, LowestBit};
 
 // The word of the strongest party, held nowhere, and that of the weakest, held everywhere.
 const NONE: u64 = 0;
@@ -144,7 +144,7 @@ pub fn low_mask(n: u64, w: u64) -> u64
 
 // How many words the coalitions of n names take.
 pub fn word_count(n: u64) -> u64
-    ensures { λ r. ⌜ r ≡ wordsOf n ⌝ }
+    ensures { λ r. ⌜ r ≡ wordCount n ⌝ }
 {
     if n < 6 {
         return 1;
@@ -157,8 +157,8 @@ pub fn word_count(n: u64) -> u64
 
 // All words of a term of n names on both sides, word w at place w: for what asks for them more than once.
 pub fn evaluate(codes: &[u8], n: u64, see: &mut [u64; 64], change: &mut [u64; 64])
-    ensures { λ _. ⌜ EvaluatedTo (termIn (now (codes .entry))) confidentiality (wordsOf n) (now (see .entry)) (now (see .exit)) ⌝ }
-    ensures { λ _. ⌜ EvaluatedTo (termIn (now (codes .entry))) integrity (wordsOf n) (now (change .entry)) (now (change .exit)) ⌝ }
+    ensures { λ _. ⌜ EvaluatedTo (termIn (now (codes .entry))) confidentiality (wordCount n) (now (see .entry)) (now (see .exit)) ⌝ }
+    ensures { λ _. ⌜ EvaluatedTo (termIn (now (codes .entry))) integrity (wordCount n) (now (change .entry)) (now (change .exit)) ⌝ }
 {
     let count = word_count(n);
     let mut w: u64 = 0;

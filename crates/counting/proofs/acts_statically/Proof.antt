@@ -6,7 +6,7 @@ use mathlib.Core.Path.{_≡_, sym, _∙_, subst}
 use Rattle.model.specs.Coalitions.{mark, packed}
 use Rattle.model.proofs.Bars.{barsActing, static-bars}
 use Rattle.words.specs.AnyBytes.{termIn}
-use Rattle.words.specs.Evaluation.{jobOf, wordsOf, ClearTo}
+use Rattle.words.specs.Evaluation.{jobOf, wordCount, ClearTo}
 use Rattle.words.proofs.Names.{words-few, mask-few, count-few}
 use Rattle.words.proofs.Searches.{clear-none, clear-more, clear-all, clear-not}
 use Rattle.counting.proofs.Tests.{actingWord, acting-word}
@@ -14,7 +14,7 @@ use Rattle.counting.proofs.acts_statically.Statement.{statement}
 use Rattle.counting.proofs.acts_statically.Tie as tie
 
 abbrev Inv-loop : tie.InvT-loop
-Inv-loop n p q words w₀ w = (words ≡ wordsOf n) × (w ≤ words) × ClearTo (jobOf n) (barsActing (termIn p) (termIn q)) w
+Inv-loop n p q words w₀ w = (words ≡ wordCount n) × (w ≤ words) × ClearTo (jobOf n) (barsActing (termIn p) (termIn q)) w
 
 abbrev μ-loop : tie.MeasureT-loop
 μ-loop n p q words w₀ w = words - w
@@ -67,7 +67,7 @@ returns-2 c =
     let l = c .before .loop in
     let a = c .before .before .before .before .before .args in
     let bars = barsActing (termIn (a .p .now)) (termIn (a .q .now)) in
-    let all : l .w ≡ wordsOf (jobOf (a .n)) = omega (arith, count-few (a .n)) in
+    let all : l .w ≡ wordCount (jobOf (a .n)) = omega (arith, count-few (a .n)) in
     clear-all (jobOf (a .n)) bars (omega arith) (subst (ClearTo (jobOf (a .n)) bars) all (l .inv .2)) ∙ sym (static-bars (jobOf (a .n)) (termIn (a .p .now)) (termIn (a .q .now)))
 
 pub acts-statically-spec : {M : Type 1} → statement M

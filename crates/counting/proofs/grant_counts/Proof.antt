@@ -8,7 +8,7 @@ use Rattle.model.specs.Coalitions.{mark, packed}
 use Rattle.model.specs.Terms.{Term, held}
 use Rattle.model.specs.Grants.{Grant, marksOf, countsUnder}
 use Rattle.model.proofs.Bars.{barsCounting, counts-bars}
-use Rattle.words.specs.Evaluation.{jobOf, wordsOf, ClearTo, WordsAt}
+use Rattle.words.specs.Evaluation.{jobOf, wordCount, ClearTo, WordsAt}
 use Rattle.words.proofs.Names.{words-few, mask-few, count-few}
 use Rattle.words.proofs.Searches.{clear-none, clear-more, clear-all, clear-not}
 use Rattle.counting.specs.Counted.{GrantGiven}
@@ -17,7 +17,7 @@ use Rattle.counting.proofs.grant_counts.Statement.{statement}
 use Rattle.counting.proofs.grant_counts.Tie as tie
 
 abbrev Inv-loop : tie.InvT-loop
-Inv-loop see change n q d words w₀ w = (words ≡ wordsOf n) × (w ≤ words) × ((L : Term) (g : Grant) → GrantGiven n see change q d L g → ClearTo (jobOf n) (barsCounting (held L) (marksOf g)) w)
+Inv-loop see change n q d words w₀ w = (words ≡ wordCount n) × (w ≤ words) × ((L : Term) (g : Grant) → GrantGiven n see change q d L g → ClearTo (jobOf n) (barsCounting (held L) (marksOf g)) w)
 
 abbrev μ-loop : tie.MeasureT-loop
 μ-loop see change n q d words w₀ w = words - w
@@ -32,7 +32,7 @@ word c L g h =
     let l = d .before .before in
     let a = l .before .before .before .before .args in
     let w = l .loop .w in
-    let below : w < wordsOf (a .n) = omega (arith, l .loop .inv .0, d .before .loop-test .taken) in
+    let below : w < wordCount (a .n) = omega (arith, l .loop .inv .0, d .before .loop-test .taken) in
     let few : w < 64 = omega (arith, words-few (a .n)) in
     let label : WordsAt (held (g .label)) w (d .words-of .result .see) (d .words-of .result .change) = rw (h .label-is) (d .words-of .ensures .words) in
     counting-word (jobOf (a .n)) L g w _ _ _ _ _ _ (c .low-mask .ensures ∙ mask-few (a .n) w few) (h .see-words .word w below) (h .change-words .word w below) label
@@ -87,7 +87,7 @@ unfolding countsUnder
 returns-2 c L g h =
     let l = c .before .loop in
     let a = c .before .before .before .before .before .args in
-    let all : l .w ≡ wordsOf (jobOf (a .n)) = omega (arith, count-few (a .n)) in
+    let all : l .w ≡ wordCount (jobOf (a .n)) = omega (arith, count-few (a .n)) in
     clear-all (jobOf (a .n)) (barsCounting (held L) (marksOf g)) (omega arith) (subst (ClearTo (jobOf (a .n)) (barsCounting (held L) (marksOf g))) all (l .inv .2 L g h)) ∙ sym (counts-bars (jobOf (a .n)) (held L) (marksOf g))
 
 pub grant-counts-spec : {M : Type 1} → statement M

@@ -11,7 +11,7 @@ use borrow.Author.Tests.{eq-eqb, ne-eqb, lt-ltb, le-ltb}
 use Rattle.model.specs.Answers.{Yes}
 use Rattle.model.specs.Derivations.{checkDerivation, ifAccepted}
 use Rattle.model.proofs.Blocks.{length-field}
-use Rattle.derivations.specs.Answers.{answerOf}
+use Rattle.derivations.specs.Answers.{checkedOf}
 use Rattle.derivations.specs.declared.Checked.the-variants.{Accepted, Refused, RefusedAt}
 use Rattle.derivations.proofs.Checked
 use Rattle.derivations.proofs.Checking.{quote-told, quote-refused}
@@ -20,14 +20,14 @@ use Rattle.derivations.proofs.quote.Statement.{statement}
 use Rattle.derivations.proofs.quote.Tie as tie
 
 -- what is not accepted gives the empty part
-none : (x : Checked.the-type .D) (part : List ℕ) → Run.OneOf (1 ∷ 2 ∷ []) (Declared.tagOf Checked.the-type x) → ifAccepted (answerOf x) part ≡ []
+none : (x : Checked.the-type .D) (part : List ℕ) → Run.OneOf (1 ∷ 2 ∷ []) (Declared.tagOf Checked.the-type x) → ifAccepted (checkedOf x) part ≡ []
 none Accepted part (inl e) = absurd (omega arith)
 none Accepted part (inr e) = absurd (omega arith)
 none (Refused r) part h = refl
 none (RefusedAt k r) part h = refl
 
 accepts : (c : tie.After-enum-told) → let a = c .before .before .before .before .before .before .args in checkDerivation (a .derivation .now) (a .ledger .now) (a .label .now) ≡ Yes
-accepts c = sym (c .before .before .check-derivation .ensures) ∙ ap answerOf (c .enum-told .given .1)
+accepts c = sym (c .before .before .check-derivation .ensures) ∙ ap checkedOf (c .enum-told .given .1)
 
 -- a step before the end has 136 bytes
 long : (c : tie.After-step-at) → 136 ≤ length (c .step-at .result .now)
@@ -47,7 +47,7 @@ slice-aggregate-result c = search needs
 returns : tie.Need-returns
 returns c =
     let check = c .before .before in
-    sym (quote-refused _ _ _ _ (answerOf (check .check-derivation .result)) (sym (check .check-derivation .ensures)) (λ part. none (check .check-derivation .result) part (c .before .match .keys2)))
+    sym (quote-refused _ _ _ _ (checkedOf (check .check-derivation .result)) (sym (check .check-derivation .ensures)) (λ part. none (check .check-derivation .result) part (c .before .match .keys2)))
 
 slice-aggregate-result-2 : tie.Need-slice-aggregate-result-2
 slice-aggregate-result-2 c = search needs

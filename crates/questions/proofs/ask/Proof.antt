@@ -128,7 +128,7 @@ returns-5 c =
     let a = p .before .before .before .before .before .before .before .before .before .before .before .args in
     verdict-answers (v .judge .result) _ (c .answered .ensures)
     ∙ ap answerTo (v .judge .ensures)
-    ∙ judged-asked (a .question) _ _ _ _ _ _ _ (l .ledger) (tp .term) (tq .term) (L .term) (ledger-of _ _ _ l) (tp .is) (tq .is) (L .is) (v .before .counted .ensures)
+    ∙ judged-asked (a .relation) _ _ _ _ _ _ _ (l .ledger) (tp .term) (tq .term) (L .term) (ledger-of _ _ _ l) (tp .is) (tq .is) (L .is) (v .before .counted .ensures)
     ∙ ask-answer _ _ _ _ _ (l .ledger) _ (l .is) (l .names) (tp .term) (tp .is) (tq .term) (tq .is) (L .term) (L .is)
 
 pub ask-spec : {M : Type 1} → statement M

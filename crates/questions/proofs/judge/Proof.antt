@@ -6,7 +6,7 @@ use mathlib.Core.Path.{_≡_, _∙_}
 use Rattle.model.specs.Sides.{confidentiality}
 use Rattle.model.specs.Coalitions.{Marks, nowhere, lowest}
 use Rattle.words.specs.AnyBytes.{termIn}
-use Rattle.words.specs.Evaluation.{wordsOf}
+use Rattle.words.specs.Evaluation.{wordCount}
 use Rattle.words.proofs.Names.{words-few}
 use Rattle.words.proofs.Searches.{lowest-zero}
 use Rattle.soundness.specs.Keeping.{soundIn}
@@ -16,13 +16,13 @@ use Rattle.questions.proofs.judge.Statement.{statement}
 use Rattle.questions.proofs.judge.Tie as tie
 
 abbrev Inv-loop : tie.InvT-loop
-Inv-loop question ledger n grants counted p q words found₀ w₀ found w =
-    (words ≡ wordsOf n) × (w ≤ words)
-    × (lowest (refutersOf question n (soundIn ledger grants counted) (termIn p) (termIn q) confidentiality) (64 * w) ≡ nowhere)
-    × (verdictOf found ≡ foundTo (refutersOf question n (soundIn ledger grants counted) (termIn p) (termIn q)) (64 * w))
+Inv-loop relation ledger n grants counted p q words found₀ w₀ found w =
+    (words ≡ wordCount n) × (w ≤ words)
+    × (lowest (refutersOf relation n (soundIn ledger grants counted) (termIn p) (termIn q) confidentiality) (64 * w) ≡ nowhere)
+    × (verdictOf found ≡ foundTo (refutersOf relation n (soundIn ledger grants counted) (termIn p) (termIn q)) (64 * w))
 
 abbrev μ-loop : tie.MeasureT-loop
-μ-loop question ledger n grants counted p q words found₀ w₀ found w = words - w
+μ-loop relation ledger n grants counted p q words found₀ w₀ found w = words - w
 
 abbrev start : tie.At-loop Inv-loop μ-loop → tie.Start Inv-loop μ-loop
 start o = o .before .before .before .before .before
@@ -31,7 +31,7 @@ start o = o .before .before .before .before .before
 abbrev refuters : tie.At-loop Inv-loop μ-loop → Marks
 refuters o =
     let a = start o .args in
-    refutersOf (a .question) (a .n) (soundIn (a .ledger .now) (a .grants) (a .counted)) (termIn (a .p .now)) (termIn (a .q .now))
+    refutersOf (a .relation) (a .n) (soundIn (a .ledger .now) (a .grants) (a .counted)) (termIn (a .p .now)) (termIn (a .q .now))
 
 few : (c : tie.In-loop Inv-loop μ-loop) → c .before .loop .w < 64
 few c = omega (arith, c .before .loop .inv .0, words-few (start (c .before) .args .n))
@@ -46,8 +46,8 @@ deciding c =
     record {
       clear = o .loop .inv .2;
       so-far = o .loop .inv .3;
-      words = deciding-words (a .question) (a .n) (soundIn (a .ledger .now) (a .grants) (a .counted)) (termIn (a .p .now)) (termIn (a .q .now)) (o .loop .found) (o .loop .w) _ _ (few i)
-          (c .keep-all .ensures _ (c .before .still .ensures (opposedOf (a .question) (a .n) (termIn (a .p .now)) (termIn (a .q .now))) (o .loop .w) (c .before .before .opposed .ensures)));
+      words = deciding-words (a .relation) (a .n) (soundIn (a .ledger .now) (a .grants) (a .counted)) (termIn (a .p .now)) (termIn (a .q .now)) (o .loop .found) (o .loop .w) _ _ (few i)
+          (c .keep-all .ensures _ (c .before .still .ensures (opposedOf (a .relation) (a .n) (termIn (a .p .now)) (termIn (a .q .now))) (o .loop .w) (c .before .before .opposed .ensures)));
     }
 
 word-count-requires : tie.Need-word-count-requires Inv-loop μ-loop
@@ -56,7 +56,7 @@ word-count-requires c κs = tt
 loop-holds : tie.Need-loop-holds Inv-loop μ-loop
 loop-holds c =
     let a = c .before .before .before .before .args in
-    let R : Marks = refutersOf (a .question) (a .n) (soundIn (a .ledger .now) (a .grants) (a .counted)) (termIn (a .p .now)) (termIn (a .q .now)) in
+    let R : Marks = refutersOf (a .relation) (a .n) (soundIn (a .ledger .now) (a .grants) (a .counted)) (termIn (a .p .now)) (termIn (a .q .now)) in
     (c .word-count .ensures, omega arith, lowest-zero (R confidentiality), found-none R)
 
 opposed-requires : tie.Need-opposed-requires Inv-loop μ-loop
@@ -79,8 +79,8 @@ returns c =
     let a = start o .args in
     let d = deciding k in
     c .before .before .further .ensures (refuters o) (few i) d
-    ∙ found-see (refuters o) (o .loop .w) _ (64 * wordsOf (a .n)) (d .clear) (see-still (refuters o) (o .loop .found) (o .loop .w) _ (d .words .see-word)) (c .if1 .taken) (omega arith)
-    ∙ found-all (a .question) (a .n) _ _ _
+    ∙ found-see (refuters o) (o .loop .w) _ (64 * wordCount (a .n)) (d .clear) (see-still (refuters o) (o .loop .found) (o .loop .w) _ (d .words .see-word)) (c .if1 .taken) (omega arith)
+    ∙ found-all (a .relation) (a .n) _ _ _
 
 add-w : tie.Need-add-w Inv-loop μ-loop
 add-w c = omega (arith, few (c .before .before .before .before .before .before))
@@ -104,8 +104,8 @@ returns-2 : tie.Need-returns-2 Inv-loop μ-loop
 returns-2 c =
     let o = c .before in
     let a = start o .args in
-    let end : o .loop .w ≡ wordsOf (a .n) = omega arith in
-    o .loop .inv .3 ∙ rw end (found-all (a .question) (a .n) _ _ _)
+    let end : o .loop .w ≡ wordCount (a .n) = omega arith in
+    o .loop .inv .3 ∙ rw end (found-all (a .relation) (a .n) _ _ _)
 
 pub judge-spec : {M : Type 1} → statement M
 judge-spec =

@@ -1,7 +1,7 @@
 -- `rights::rights_extract` meets its contract: the number and the buffer of what `extract` gives. Assumes nothing.
 use native.Mathlib.Omega.{arith}
 use Rattle.model.specs.Answers.{number}
-use Rattle.extracts.specs.Results.{extractAnswer}
+use Rattle.extracts.specs.Results.{extractedOf}
 use Rattle.rights.proofs.Numbers.{outcome-number}
 use borrow.Author.Needs.{needs}
 use Rattle.rights.proofs.rights_extract.Statement.{statement}
@@ -29,7 +29,7 @@ returns : tie.Need-returns
 unfolding number
 returns c =
     let e = c .before .before .before .before .extract in
-    outcome-number (extractAnswer (e .result)) _ _ (e .ensures) 0 (rw (c .enum-told .given .1))
+    outcome-number (extractedOf (e .result)) _ _ (e .ensures) 0 (rw (c .enum-told .given .1))
 
 same-length-2 : tie.Need-same-length-2
 same-length-2 c = search needs
@@ -38,7 +38,7 @@ returns-2 : tie.Need-returns-2
 unfolding number
 returns-2 c =
     let e = c .before .before .before .before .before .extract in
-    outcome-number (extractAnswer (e .result)) _ _ (e .ensures) _ (rw (c .before .extracted .given .1) (omega arith))
+    outcome-number (extractedOf (e .result)) _ _ (e .ensures) _ (rw (c .before .extracted .given .1) (omega arith))
 
 pub rights-extract-spec : {M : Type 1} → statement M
 rights-extract-spec =

@@ -4,7 +4,7 @@ use native.Mathlib.Omega.{arith}
 use Prim.Native.Nat.{_≤_}
 use Rattle.model.specs.Answers.{number, Outcome}
 use Rattle.model.proofs.Listed.{written-few}
-use Rattle.short_forms.specs.Listings.{answerOf}
+use Rattle.short_forms.specs.Listings.{formOf}
 use Rattle.rights.proofs.Numbers.{outcome-number}
 use borrow.Author.Needs.{needs}
 use Rattle.rights.proofs.rights_short_form.Statement.{statement}
@@ -22,7 +22,7 @@ cast-result c =
     let a = c .before .before .before .before .before .before .before .before .before .args in
     let few : c .before .form .given .0 .0 ≤ 16388 =
     written-few (a .n) (a .term .now) (a .buffer .now) (c .before .form .given .0 .0)
-    (sym (ap (λ (o : Outcome). o .answer) (f .ensures)) ∙ ap answerOf (c .before .form .given .1)) in
+    (sym (ap (λ (o : Outcome). o .answer) (f .ensures)) ∙ ap formOf (c .before .form .given .1)) in
     omega arith
 
 enum-known-form-2 : tie.Need-enum-known-form-2
@@ -41,7 +41,7 @@ returns : tie.Need-returns
 unfolding number
 returns c =
     let f = c .before .before .before .before .before .short-form in
-    outcome-number (answerOf (f .result)) _ _ (f .ensures) _ (rw (c .before .form .given .1))
+    outcome-number (formOf (f .result)) _ _ (f .ensures) _ (rw (c .before .form .given .1))
 
 same-length-2 : tie.Need-same-length-2
 same-length-2 c = search needs
@@ -50,7 +50,7 @@ returns-2 : tie.Need-returns-2
 unfolding number
 returns-2 c =
     let f = c .before .before .before .before .before .short-form in
-    outcome-number (answerOf (f .result)) _ _ (f .ensures) _ (rw (c .before .form2 .given .1) (omega arith))
+    outcome-number (formOf (f .result)) _ _ (f .ensures) _ (rw (c .before .form2 .given .1) (omega arith))
 
 pub rights-short-form-spec : {M : Type 1} → statement M
 rights-short-form-spec =

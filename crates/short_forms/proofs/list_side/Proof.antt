@@ -7,7 +7,7 @@ use lib.ListN.{length, length-take, length-drop}
 use lib.Pow.{pow-mono}
 use borrow.Author.Needs.{needs}
 use Rattle.model.proofs.Listed.{length-pairs}
-use Rattle.words.specs.Evaluation.{wordsOf}
+use Rattle.words.specs.Evaluation.{wordCount}
 use Rattle.words.proofs.Names.{words-few}
 use Rattle.short_forms.specs.Listings.{marked, irredundant, bitsOf}
 use Rattle.short_forms.proofs.Sides.{SideListed, side-none, side-few, side-room, side-more, side-whole}
@@ -16,7 +16,7 @@ use Rattle.short_forms.proofs.list_side.Tie as tie
 
 abbrev Inv-loop : tie.InvT-loop
 Inv-loop marks n buffer₀ count at₀ w₀ buffer at w =
-    (w ≤ count) × (count ≡ wordsOf n) × (count ≤ 64) × SideListed n (irredundant n (marked marks)) buffer₀ buffer at w
+    (w ≤ count) × (count ≡ wordCount n) × (count ≤ 64) × SideListed n (irredundant n (marked marks)) buffer₀ buffer at w
 
 abbrev μ-loop : tie.MeasureT-loop
 μ-loop marks n buffer₀ count at₀ w₀ buffer at w = count - w

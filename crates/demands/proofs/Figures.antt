@@ -15,7 +15,7 @@ use Rattle.model.specs.Readings.{Reading, accepted, refused, from, isAccepted}
 use Rattle.model.specs.Coalitions.{Marks}
 use Rattle.model.specs.Terms.{Term, readTerm, held}
 use Rattle.model.specs.Grants.{Grant, readUnder, countsUnder, ofGrant}
-use Rattle.model.specs.Ledgers.{Ledger, readLedger}
+use Rattle.model.specs.Ledgers.{readBook, Ledger, readLedger}
 use Rattle.model.specs.Answers.{Answer, Yes, No, Written, Refused, RefusedAt, number}
 use Rattle.model.specs.Questions.{answerTo, across, soundUnder, actsForUnder, flowsToUnder, ask, actsFor, flowsTo}
 use Rattle.model.specs.Extracts.{extractOf, written, extract}
@@ -27,7 +27,7 @@ use Rattle.model.proofs.Accepted.{names-range}
 use Rattle.model.proofs.Listed.{written-few}
 use Rattle.demands.specs.Numbers.{Range, _to_, OneOf, questionRefusals, extractRefusals, shortFormRefusals, derivationRefusals, stepRefusals, AnswersQuestion, AnswersExtract, AnswersShortForm, AnswersDerivation, QuestionsAnswered, ExtractsAnswered, ShortFormsAnswered, DerivationsAnswered, ComesBack, AnswersComeBack}
 use Rattle.demands.proofs.Asking.{judged}
-use Rattle.demands.proofs.Refusing.{Only, only-require, only-then, only-term, only-part, only-ledger, given-case, only-under}
+use Rattle.demands.proofs.Refusing.{Only, only-require, only-then, only-term, only-part, only-ledger, given-case, only-under, only-book}
 
 -- ---- an answer whose parts are small comes back out of its number
 abbrev Small : Answer → Type 0
@@ -94,10 +94,9 @@ unfolding extract extractOf
 extracts-answered ledger label buffer =
     written-answered (extractOf ledger label (length buffer)) buffer
     (only-require (OneOf extractRefusals) (eqb (length buffer) 1024) 51 _ (inl (omega arith, omega arith))
-    (only-then (OneOf extractRefusals) (readLedger ledger) _ (only-ledger (OneOf extractRefusals) ledger (λ r a b. inr (inl (a, b))))
-    (λ l. only-then (OneOf extractRefusals) (readUnder (l .names) label) _
-    (only-under (OneOf extractRefusals) (l .names) label (λ r a b. inr (inr (inl (omega arith, omega arith)))))
-    (λ u. tt))))
+    (only-then (OneOf extractRefusals) (readBook ledger label) _
+    (only-book (OneOf extractRefusals) ledger label (λ r a b. inr (inl (a, b))) (λ r a b. inr (inr (inl (omega arith, omega arith)))))
+    (λ b. tt)))
 
 extract-small : (answer : Answer) → AnswersExtract answer → Small answer
 extract-small Yes h = tt
@@ -156,12 +155,11 @@ steps-answered l f d k (suc count) few h =
 pub derivations-answered : DerivationsAnswered
 unfolding checkDerivation
 derivations-answered d ledger label =
-    given-case (AnswersDerivation d) (readLedger ledger) _ (only-ledger (OneOf derivationRefusals) ledger (λ r a b. inl (a, b)))
-    (λ l _. given-case (AnswersDerivation d) (readUnder (l .names) label) _
-    (only-under (OneOf derivationRefusals) (l .names) label (λ r a b. inr (inl (omega arith, omega arith))))
-    (λ u _. cond-case (AnswersDerivation d) (derivationLength (length d)) (checkSteps l (countsUnder u) d 0 (stepCount d)) (Refused 60)
-    (λ e. steps-answered l (countsUnder u) d 0 (stepCount d) (few e) (omega arith))
-    (λ _. inr (inr (inl (omega arith, omega arith))))))
+    given-case (AnswersDerivation d) (readBook ledger label) _
+    (only-book (OneOf derivationRefusals) ledger label (λ r a b. inl (a, b)) (λ r a b. inr (inl (omega arith, omega arith))))
+    (λ b _. cond-case (AnswersDerivation d) (derivationLength (length d)) (checkSteps (b .ledger) (countsUnder (b .asked)) d 0 (stepCount d)) (Refused 60)
+    (λ e. steps-answered (b .ledger) (countsUnder (b .asked)) d 0 (stepCount d) (few e) (omega arith))
+    (λ _. inr (inr (inl (omega arith, omega arith)))))
   where
     few : derivationLength (length d) ≡ true → stepCount d ≤ 64
     few e = omega (arith, leb-true (length d) 8704 (and-right (leb 136 (length d)) _ (and-right (eqb (length d % 136) 0) _ e)))

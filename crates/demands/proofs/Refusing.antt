@@ -9,7 +9,7 @@ use Rattle.model.specs.Bytes.{byte}
 use Rattle.model.specs.Readings.{Reading, accepted, refused, andThen, from, require, refusedAs}
 use Rattle.model.specs.Terms.{Term, readTerm}
 use Rattle.model.specs.Grants.{readUnder}
-use Rattle.model.specs.Ledgers.{header, grantBlocks, checked, allChecked, headerForm, grantForm, readTerms, readGrant, readGrants, ledgerLength, readLedger}
+use Rattle.model.specs.Ledgers.{readBook, header, grantBlocks, checked, allChecked, headerForm, grantForm, readTerms, readGrant, readGrants, ledgerLength, readLedger}
 use Rattle.model.specs.Answers.{Answer, Refused, given}
 use Rattle.model.proofs.Refusals.{refused-number}
 
@@ -67,6 +67,11 @@ only-part R base n cs h = only-from R base (readTerm n cs) (only-term (λ r. R (
 -- a label refuses by 41 to 44
 pub only-under : (R : ℕ → Type 0) (n : ℕ) (label : List ℕ) → ((r : ℕ) → 1 ≤ r → r ≤ 4 → R (40 + r)) → Only R (readUnder n label)
 only-under R n label h = only-then R (from 40 (readTerm n label)) _ (only-part R 40 n label h) (λ L. tt)
+
+-- a ledger and a label by 10 to 14 and 41 to 44
+pub only-book : (R : ℕ → Type 0) (ledger label : List ℕ) → ((r : ℕ) → 10 ≤ r → r ≤ 14 → R r) → ((r : ℕ) → 1 ≤ r → r ≤ 4 → R (40 + r)) → Only R (readBook ledger label)
+unfolding readBook
+only-book R ledger label h k = only-then R (readLedger ledger) _ (only-ledger R ledger h) (λ l. only-then R (readUnder (l .names) label) _ (only-under R (l .names) label k) (λ u. tt))
 
 -- what follows from a reading, where its refusal is the answer
 pub given-case : {A : Type 0} (P : Answer → Type 0) (x : Reading A) (next : A → Answer) → Only (λ r. P (Refused r)) x → ((a : A) → x ≡ accepted a → P (next a)) → P (given x next)

@@ -10,7 +10,7 @@ use Rattle.model.specs.Bytes.{zeros, pieces, joined}
 use Rattle.model.specs.Coalitions.{member, every, within, lowest, mark, packed}
 use Rattle.model.specs.Terms.{name, bottom, disj, project, codes, codeOf, readWithin, readTerm, held}
 use Rattle.model.specs.Grants.{countsUnder, visible, voice, spoken, counts, chosen, sound}
-use Rattle.model.specs.Ledgers.{weighted, checkOf, checked, grantBlocks, allChecked, headerForm, grantForm, readTerms, readGrant, readGrants, readLedger, withCheck, ledgerOf}
+use Rattle.model.specs.Ledgers.{readBook, weighted, checkOf, checked, grantBlocks, allChecked, headerForm, grantForm, readTerms, readGrant, readGrants, readLedger, withCheck, ledgerOf}
 use Rattle.model.specs.Questions.{refutes, judge, across, soundUnder, actsForUnder, flowsToUnder, ask, actsFor, flowsTo}
 use Rattle.model.specs.Extracts.{packedBytes, table, extractOf, extract}
 use Rattle.demands.specs.Cases.{plain, oneGrant, sideSpoken, sideLabelled, HeldEverywhere, WorkedCases, WrongTurns}
@@ -28,7 +28,7 @@ unfolding codeOf readWithin readTerm held
 weakest-held = record { term = bottom; is = refl; everywhere = λ s c. refl }
 
 pub worked-cases : WorkedCases
-unfolding plain oneGrant zeros pieces joined codes codeOf readWithin readTerm member held every within visible voice spoken counts countsUnder chosen sound weighted checkOf checked grantBlocks allChecked headerForm grantForm readTerms readGrant readGrants readLedger lowest refutes judge across soundUnder actsForUnder flowsToUnder ask actsFor flowsTo mark packed packedBytes table extractOf extract
+unfolding plain oneGrant zeros pieces joined codes codeOf readWithin readTerm member held every within visible voice spoken counts countsUnder chosen sound weighted checkOf checked grantBlocks allChecked headerForm grantForm readTerms readGrant readGrants readLedger readBook lowest refutes judge across soundUnder actsForUnder flowsToUnder ask actsFor flowsTo mark packed packedBytes table extractOf extract
 worked-cases = record {
   A-either = either-held;
   A-weakest = weakest-held;
@@ -46,7 +46,7 @@ worked-cases = record {
 }
 
 pub wrong-turns : WrongTurns
-unfolding plain sideSpoken sideLabelled zeros pieces joined codes codeOf readWithin readTerm member held every within visible voice spoken counts countsUnder chosen sound weighted checkOf checked grantBlocks allChecked headerForm grantForm readTerms readGrant readGrants readLedger lowest refutes judge across soundUnder actsForUnder flowsToUnder ask actsFor flowsTo withCheck ledgerOf
+unfolding plain sideSpoken sideLabelled zeros pieces joined codes codeOf readWithin readTerm member held every within visible voice spoken counts countsUnder chosen sound weighted checkOf checked grantBlocks allChecked headerForm grantForm readTerms readGrant readGrants readLedger readBook lowest refutes judge across soundUnder actsForUnder flowsToUnder ask actsFor flowsTo withCheck ledgerOf
 wrong-turns = record {
   full-lacks-strongest = refl;
   flows-see-side = refl;

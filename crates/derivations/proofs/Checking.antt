@@ -12,18 +12,17 @@ use borrow.Author.Tests.{leb-true}
 use Rattle.model.specs.Bytes.{byte}
 use Rattle.model.specs.Readings.{Reading, accepted, refused, require, isAccepted}
 use Rattle.model.specs.Coalitions.{member}
-use Rattle.model.specs.Terms.{Term, readTerm}
+use Rattle.model.specs.Terms.{Term}
 use Rattle.model.specs.Grants.{under, countsUnder, Grant, ofGrant}
-use Rattle.model.specs.Ledgers.{Ledger, readLedger, grantBlock}
+use Rattle.model.specs.Ledgers.{readBook, Ledger, grantBlock}
 use Rattle.model.specs.Answers.{Answer, Yes, RefusedAt, Refused as RefusedAnswer}
 use Rattle.model.specs.Derivations.{stepAt, ruleOf, usesOf, stepForm, readLeft, readRight, checkStep, onStep, checkSteps, derivationLength, stepCount, checkDerivation, ifAccepted, quote}
 use Rattle.model.specs.Meanings.{grantBits}
 use Rattle.model.proofs.Truth.{and-right}
 use Rattle.model.proofs.Stands.{ledger-stands}
 use Rattle.terms.specs.Readings.{termReading}
-use Rattle.terms.proofs.Accepted.{AcceptedTerm}
 use Rattle.ledgers.specs.Readings.{LedgerOf}
-use Rattle.ledgers.proofs.Accepted.{AcceptedLedger, ledger-of}
+use Rattle.ledgers.proofs.Accepted.{AcceptedBook}
 use Rattle.terms.specs.declared.TermReading.{TermReading}
 use Rattle.terms.specs.declared.TermReading.the-variants.{Accepted as TermAccepted, Refused as TermRefused}
 use Rattle.counting.specs.Counted.{countedIn}
@@ -140,35 +139,26 @@ module _ (l : Ledger) (f : Grant → Bool) (d : List ℕ) where
 pub length-most : (k : ℕ) → derivationLength k ≡ true → k ≤ 8704
 length-most k e = leb-true k 8704 (and-right (leb 136 k) (leb k 8704) (and-right (eqb (k % 136) 0) (leb 136 k && leb k 8704) e))
 
--- ---- the whole check: the ledger, the label, the length, the steps
+-- ---- the whole check: the ledger and the label, the length, the steps
 
 module _ (d ledger label : List ℕ) where
-  pub ledger-refused : (r : ℕ) → readLedger ledger ≡ refused r → checkDerivation d ledger label ≡ RefusedAnswer r
+  pub book-refused : (r : ℕ) → readBook ledger label ≡ refused r → checkDerivation d ledger label ≡ RefusedAnswer r
   unfolding checkDerivation
-  ledger-refused r e = rw e
+  book-refused r e = rw e
 
-  module _ (n k : ℕ) (read : AcceptedLedger ledger n k) where
-    pub label-refused : (r : ℕ) → readTerm n label ≡ refused r → checkDerivation d ledger label ≡ RefusedAnswer (40 + r)
+  module _ (n k : ℕ) (read : AcceptedBook ledger label n k) where
+    pub length-refused : derivationLength (length d) ≡ false → checkDerivation d ledger label ≡ RefusedAnswer 60
     unfolding checkDerivation
-    label-refused r f = rw (read .is, read .names, f)
+    length-refused e = rw (read .is, e)
 
-    both-accepted : (L : Term) → readTerm n label ≡ accepted L
-        → checkDerivation d ledger label ≡ cond (derivationLength (length d)) (checkSteps (read .ledger) (countsUnder (under n L)) d 0 (stepCount d)) (RefusedAnswer 60)
+    -- what the steps' check says of the bits, and what the bits are
+    pub steps-checked : (bits : ℕ) (answer : Answer) → derivationLength (length d) ≡ true
+        → bits ≡ countedIn ledger n k label
+        → ((l : Ledger) (f : Grant → Bool) → LedgerOf ledger n k l → bits ≡ grantBits f (l .grants) → answer ≡ checkSteps l f d 0 (stepCount d))
+        → answer ≡ checkDerivation d ledger label
     unfolding checkDerivation
-    both-accepted L f = rw (read .is, read .names, f)
-
-    module _ (term : AcceptedTerm n label) where
-      pub length-refused : derivationLength (length d) ≡ false → checkDerivation d ledger label ≡ RefusedAnswer 60
-      length-refused e = rw (both-accepted (term .term) (term .is), e)
-
-      -- what the steps' check says of the bits, and what the bits are
-      pub steps-checked : (bits : ℕ) (answer : Answer) → derivationLength (length d) ≡ true
-          → bits ≡ countedIn ledger n k label
-          → ((l : Ledger) (f : Grant → Bool) → LedgerOf ledger n k l → bits ≡ grantBits f (l .grants) → answer ≡ checkSteps l f d 0 (stepCount d))
-          → answer ≡ checkDerivation d ledger label
-      steps-checked bits answer e counted checked =
-          let of = ledger-of ledger n k read in
-          rw (both-accepted (term .term) (term .is), e) (checked (read .ledger) (countsUnder (under n (term .term))) of (counted ∙ counted-in ledger n k (read .ledger) of (term .term) label (term .is)))
+    steps-checked bits answer e counted checked =
+        rw (read .is, e) (checked (read .book) (countsUnder (under n (read .L))) (read .of) (counted ∙ counted-in ledger n k (read .book) (read .of) (read .L) label (read .label-is)))
 
 -- ---- quoting
 

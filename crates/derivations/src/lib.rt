@@ -444,13 +444,9 @@ fn check_steps(derivation: &[u8], ledger: &[u8], n: u64, grants: usize, counted:
 pub fn check_derivation(derivation: &[u8], ledger: &[u8], label: &[u8]) -> Checked
     ensures { λ r. ⌜ checkedOf r ≡ checkDerivation (now (derivation .entry)) (now (ledger .entry)) (now (label .entry)) ⌝ }
 {
-    let reading = ledgers::read_ledger(ledger);
-    let LedgerReading::Accepted { names: n, grants } = reading else {
-        return Checked::Refused(ledgers::ledger_refusal(reading));
-    };
-    let term = terms::read_term(label, n);
-    let TermReading::Accepted = term else {
-        return Checked::Refused(40 + terms::term_refusal(term));
+    let book = ledgers::read_book(ledger, label);
+    let LedgerReading::Accepted { names: n, grants } = book else {
+        return Checked::Refused(ledgers::ledger_refusal(book));
     };
     let fits = fields::length_fits(derivation.len(), 136, 8704);
     if !fits {

@@ -1,5 +1,5 @@
 -- The outcome of an extract call, as its refusals are met in their order: 51, the ledger's, the label's. Assumes nothing.
-use mathlib.Core.Path.{_≡_, sym, ap, ap₂, _∙_}
+use mathlib.Core.Path.{_≡_, ap, ap₂, _∙_}
 use mathlib.Core.List.{List, _++_}
 use Prim.Native.Nat.{ℕ, _+_}
 use lib.ListN.{length}
@@ -7,10 +7,9 @@ use lib.Seq.{paste}
 use borrow.Author.Tests.{eq-eqb, ne-eqb}
 use Rattle.model.specs.Readings.{accepted, refused}
 use Rattle.model.specs.Coalitions.{Marks}
-use Rattle.model.specs.Terms.{Term, readTerm}
-use Rattle.model.specs.Ledgers.{Ledger, readLedger}
+use Rattle.model.specs.Grants.{Under}
+use Rattle.model.specs.Ledgers.{Ledger, readBook}
 use Rattle.model.specs.Answers.{Yes, Refused, Outcome}
-use Rattle.model.specs.Grants.{under}
 use Rattle.model.specs.Questions.{soundUnder}
 use Rattle.model.specs.Extracts.{table, extractOf, extract}
 use Rattle.model.proofs.Table.{length-packed}
@@ -33,19 +32,14 @@ module _ (ledger label buffer : List ℕ) where
   size-refused h = rw (ne-eqb (length buffer) 1024 h)
 
   module _ (fits : length buffer ≡ 1024) where
-    pub ledger-refused : (r : ℕ) → readLedger ledger ≡ refused r → kept r ≡ extract ledger label buffer
+    pub book-refused : (r : ℕ) → readBook ledger label ≡ refused r → kept r ≡ extract ledger label buffer
     unfolding extract extractOf
-    ledger-refused r e = rw (eq-eqb (length buffer) 1024 fits, e)
+    book-refused r e = rw (eq-eqb (length buffer) 1024 fits, e)
 
-    module _ (l : Ledger) (n : ℕ) (is : readLedger ledger ≡ accepted l) (job : l .names ≡ n) where
-      pub label-refused : (r : ℕ) → readTerm n label ≡ refused r → kept (40 + r) ≡ extract ledger label buffer
-      unfolding extract extractOf
-      label-refused r e = rw (eq-eqb (length buffer) 1024 fits, is, job, e)
-
-      pub table-written : (L : Term) (bytes : List ℕ) → readTerm n label ≡ accepted L → bytes ≡ table n (soundUnder l (under n L)) → record { answer = Yes; buffer = bytes } ≡ extract ledger label buffer
-      unfolding extract extractOf
-      table-written L bytes e t =
-          rw (eq-eqb (length buffer) 1024 fits, is, ap (λ (m : ℕ). readTerm m label) job ∙ e, t ∙ ap (λ (m : ℕ). table m (soundUnder l (under m L))) (sym job))
+    pub table-written : (l : Ledger) (u : Under) (bytes : List ℕ) → readBook ledger label ≡ accepted (record { ledger = l; asked = u }) → bytes ≡ table (l .names) (soundUnder l u)
+        → record { answer = Yes; buffer = bytes } ≡ extract ledger label buffer
+    unfolding extract extractOf
+    table-written l u bytes e t = rw (eq-eqb (length buffer) 1024 fits, e, t)
 
 -- both halves, copied into the buffer one after the other, are the table
 pub halves-table : (n : ℕ) (S : Marks) (see change buffer : List ℕ) → length buffer ≡ 1024 → Halves n S see change → paste (paste buffer 0 see 512) 512 change 512 ≡ table n S

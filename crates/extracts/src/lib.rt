@@ -1,6 +1,5 @@
 // The extract call (document 01, "Extract").
 use ledgers::LedgerReading;
-use terms::TermReading;
 ghost use mathlib.Core.Path.{_≡_};
 ghost use Prim.Native.Nat.{_+_, _*_, _≤_, _<_};
 ghost use lib.ListN.{length};
@@ -71,14 +70,9 @@ pub fn extract(ledger: &[u8], label: &[u8], buffer: &mut [u8]) -> Extracted
     if buffer.len() != 1024 {
         return Extracted::Refused(51);
     }
-    let read = ledgers::read_ledger(ledger);
-    let LedgerReading::Accepted { names, grants } = read else {
-        return Extracted::Refused(ledgers::ledger_refusal(read));
-    };
-    let said = terms::read_term(label, names);
-    let TermReading::Accepted = said else {
-        let refusal = 40 + terms::term_refusal(said);
-        return Extracted::Refused(refusal);
+    let book = ledgers::read_book(ledger, label);
+    let LedgerReading::Accepted { names, grants } = book else {
+        return Extracted::Refused(ledgers::ledger_refusal(book));
     };
     let counted = counting::counted(ledger, names, grants, label);
     let mut see = [0u8; 512];

@@ -1,13 +1,15 @@
 -- What a caller of the ledger reader knows from its answer. Assumes nothing.
-use Prim.Native.Nat.{ℕ}
+use Prim.Native.Nat.{ℕ, _+_}
 use native.Mathlib.Omega.{arith}
 use mathlib.Core.Path.{_≡_, refl, sym, ap, _∙_}
 use mathlib.Core.List.{List}
 use lib.ListN.{length}
-use Rattle.model.specs.Readings.{Reading, accepted, refused}
-use Rattle.model.specs.Ledgers.{Ledger, readLedger}
+use Rattle.model.specs.Readings.{Reading, accepted, refused, andThen, from}
+use Rattle.model.specs.Terms.{Term, readTerm}
+use Rattle.model.specs.Grants.{under, readUnder}
+use Rattle.model.specs.Ledgers.{Ledger, readLedger, Book, readBook}
 use Rattle.model.proofs.Stands.{LedgerStands, ledger-stands}
-use Rattle.ledgers.specs.Readings.{ledgerReading, ledgerRefusal, LedgerOf}
+use Rattle.ledgers.specs.Readings.{ledgerReading, bookReading, ledgerRefusal, LedgerOf}
 use Rattle.ledgers.specs.declared.LedgerReading.{LedgerReading}
 use Rattle.ledgers.specs.declared.LedgerReading.the-variants.{Accepted, Refused}
 
@@ -40,3 +42,59 @@ ledger-refused bytes s k r a b e = refused-ledger bytes k (sym a ∙ b) ∙ ap r
 
 pub ledger-of : (bytes : List ℕ) (n grants : ℕ) (a : AcceptedLedger bytes n grants) → LedgerOf bytes n grants (a .ledger)
 ledger-of bytes n grants a = record { is = a .is; names = sym (a .names); count = sym (a .count) }
+
+-- ---- a ledger and a label
+
+-- an accepted ledger of n names and k grants, and an accepted label
+pub record AcceptedBook (ledger label : List ℕ) (n k : ℕ) : Type 0 where
+  pub book : Ledger
+  pub L : Term
+  pub of : LedgerOf ledger n k book
+  pub label-is : readTerm n label ≡ accepted L
+  pub is : readBook ledger label ≡ accepted (record { ledger = book; asked = under n L })
+
+module _ (ledger label : List ℕ) where
+  book-is : (n k : ℕ) (l : Ledger) (L : Term) → LedgerOf ledger n k l → readTerm n label ≡ accepted L → readBook ledger label ≡ accepted (record { ledger = l; asked = under n L })
+  unfolding readBook
+  book-is n k l L of e = rw (of .is, ← of .names, e)
+
+  pub accepted-book : (n k : ℕ) → bookReading (readBook ledger label) ≡ Accepted n k → AcceptedBook ledger label n k
+  unfolding readBook
+  accepted-book n k e = on (readLedger ledger) refl e
+    where
+      onLabel : (l : Ledger) → readLedger ledger ≡ accepted l → (r : Reading Term) → readTerm (l .names) label ≡ r
+          → bookReading (andThen (andThen (from 40 r) (λ L. accepted (under (l .names) L))) (λ u. accepted (record { ledger = l; asked = u }))) ≡ Accepted n k → AcceptedBook ledger label n k
+      onLabel l is (accepted L) f g =
+          let names : n ≡ l .names = cc in
+          let of : LedgerOf ledger n k l = record { is = is; names = names; count = cc } in
+          let term : readTerm n label ≡ accepted L = rw names f in
+          record { book = l; L = L; of = of; label-is = term; is = book-is n k l L of term }
+      onLabel l is (refused r) f g = absurd (let z : _≡_ {A = ℕ} 0 1 = cc in omega arith)
+
+      on : (r : Reading Ledger) → readLedger ledger ≡ r
+          → bookReading (andThen r (λ l. andThen (readUnder (l .names) label) (λ u. accepted (record { ledger = l; asked = u })))) ≡ Accepted n k → AcceptedBook ledger label n k
+      on (accepted l) f g = onLabel l f (readTerm (l .names) label) refl g
+      on (refused r) f g = absurd (let z : _≡_ {A = ℕ} 0 1 = cc in omega arith)
+
+  refused-book : (r : ℕ) → bookReading (readBook ledger label) ≡ Refused r → readBook ledger label ≡ refused r
+  refused-book r e = by (readBook ledger label) e
+    where
+      by : (a : Reading Book) → bookReading a ≡ Refused r → a ≡ refused r
+      by (accepted b) g = cc
+      by (refused k) g = cc
+
+  -- the number that the code hands on is the reader's refusal
+  pub book-refused : (s : LedgerReading) (k r : ℕ) → s ≡ bookReading (readBook ledger label) → s ≡ Refused k → r ≡ ledgerRefusal s → readBook ledger label ≡ refused r
+  book-refused s k r a b e = refused-book k (sym a ∙ b) ∙ ap refused (sym (e ∙ ap ledgerRefusal b))
+
+  -- ---- what the code that reads both gives
+  pub book-ledger : (s : LedgerReading) (r : ℕ) → s ≡ ledgerReading (readLedger ledger) → s ≡ Refused r → s ≡ bookReading (readBook ledger label)
+  unfolding readBook
+  book-ledger s r a b = b ∙ rw (refused-ledger ledger r (sym a ∙ b))
+
+  pub book-label : (n k r : ℕ) → AcceptedLedger ledger n k → readTerm n label ≡ refused r → Refused (40 + r) ≡ bookReading (readBook ledger label)
+  unfolding readBook
+  book-label n k r l e = rw (l .is, l .names, e)
+
+  pub book-both : (n k : ℕ) (L : Term) → AcceptedLedger ledger n k → readTerm n label ≡ accepted L → Accepted n k ≡ bookReading (readBook ledger label)
+  book-both n k L l e = let of = ledger-of ledger n k l in rw (book-is n k (l .ledger) L of e, ← of .names, ← of .count)

@@ -4,7 +4,7 @@ use native.Mathlib.Omega.{arith}
 use mathlib.Core.Path.{_≡_, refl, sym, ap, _∙_}
 use mathlib.Core.Bool.{true}
 use mathlib.Core.List.{List, [], _∷_}
-use lib.ListN.{length, take, drop, drop-of-length-le}
+use lib.ListN.{length, drop, drop-of-length-le}
 use lib.Seq.{drop-cons}
 use Rattle.model.specs.Bytes.{field}
 use Rattle.model.specs.Readings.{Reading, accepted, refused, andThen, refusedAs}
@@ -16,16 +16,11 @@ use Rattle.model.proofs.Stands.{read-grants}
 use Rattle.terms.specs.Readings.{termReading}
 use Rattle.terms.specs.declared.TermReading.{TermReading}
 use Rattle.terms.specs.declared.TermReading.the-variants.{Accepted as AcceptedTerm, Refused as RefusedTerm}
-use Rattle.fields.proofs.Parts.{slice-field}
 use Rattle.ledgers.specs.Readings.{grantReading, ledgerReading}
 use Rattle.ledgers.specs.declared.GrantReading.{GrantReading}
 use Rattle.ledgers.specs.declared.GrantReading.the-variants.{Accepted, Refused}
 use Rattle.ledgers.specs.declared.LedgerReading.{LedgerReading}
 use Rattle.ledgers.specs.declared.LedgerReading.the-variants.{Accepted as AcceptedLedger, Refused as RefusedLedger}
-
--- what was read of the part that was lent is the answer for the field
-pub field-answer : (n at len : ℕ) (block : List ℕ) (r s : TermReading) → r ≡ termReading (readTerm n (take (at + len - at) (drop at block))) → r ≡ s → termReading (readTerm n (field at len block)) ≡ s
-field-answer n at len block r s e f = rw (slice-field at len block) at (sym e) ∙ f
 
 -- what follows an accepted term; a refused one is refusal 14
 abbrev pub onTerm : TermReading → GrantReading → GrantReading

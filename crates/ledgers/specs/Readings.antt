@@ -5,7 +5,7 @@ use mathlib.Core.List.{List}
 use Prim.Native.Nat.{ℕ}
 use lib.ListN.{length}
 use Rattle.model.specs.Readings.{Reading, accepted, refused}
-use Rattle.model.specs.Ledgers.{Ledger, readLedger}
+use Rattle.model.specs.Ledgers.{Ledger, readLedger, Book}
 use Rattle.ledgers.specs.declared.GrantReading.{GrantReading}
 use Rattle.ledgers.specs.declared.GrantReading.the-variants.{Accepted, Refused}
 use Rattle.ledgers.specs.declared.LedgerReading.{LedgerReading}
@@ -25,6 +25,11 @@ grantRefusal (Refused r) = r
 abbrev pub ledgerReading : Reading Ledger → LedgerReading
 ledgerReading (accepted l) = AcceptedLedger (l .names) (length (l .grants))
 ledgerReading (refused r) = RefusedLedger r
+
+-- of a ledger asked under a label likewise
+abbrev pub bookReading : Reading Book → LedgerReading
+bookReading (accepted b) = AcceptedLedger (b .ledger .names) (length (b .ledger .grants))
+bookReading (refused r) = RefusedLedger r
 
 abbrev pub ledgerRefusal : LedgerReading → ℕ
 ledgerRefusal (AcceptedLedger n k) = 0

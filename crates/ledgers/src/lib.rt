@@ -4,10 +4,12 @@ ghost use mathlib.Core.Path.{_≡_};
 ghost use mathlib.Core.Bool.{_&&_};
 ghost use Prim.Native.Nat.{_+_, _*_, _≤_, _<_};
 ghost use lib.ListN.{length, take};
-ghost use Rattle.model.specs.Bytes.{byte, twoBytes};
-ghost use Rattle.model.specs.Ledgers.{weighted, checked, header, grantBlocks, allChecked, headerForm, grantForm, pBytes, qBytes, labelBytes, readGrant, readGrants, readLedger, grantBlock};
+ghost use Rattle.model.specs.Bytes.{byte, field, twoBytes};
+ghost use Rattle.model.specs.Terms.{readTerm};
+ghost use Rattle.model.specs.Ledgers.{weighted, checked, header, grantBlocks, allChecked, headerForm, grantForm, pBytes, qBytes, labelBytes, readGrant, readGrants, readLedger, grantBlock, readBook};
+ghost use Rattle.terms.specs.Readings.{termReading};
 ghost use Rattle.ledgers.specs.Forms.{termForm, Summed};
-ghost use Rattle.ledgers.specs.Readings.{grantReading, grantRefusal, ledgerReading, ledgerRefusal};
+ghost use Rattle.ledgers.specs.Readings.{grantReading, grantRefusal, ledgerReading, bookReading, ledgerRefusal};
 
 // The sum of a row's bytes, and the sum of (i + 1) × byte i.
 struct RowSums {
@@ -160,6 +162,15 @@ pub enum LedgerReading {
     Refused(u8),
 }
 
+// A term of a grant, read as the part of the block that starts at `at`; byte k is its length.
+fn read_at(block: &[u8], k: usize, at: usize, n: u64) -> TermReading
+    requires { ⌜ (k < length (now block)) × (at + 255 ≤ length (now block)) ⌝ }
+    ensures { λ r. ⌜ r ≡ termReading (readTerm n (field at (byte k (now (block .entry))) (now (block .entry)))) ⌝ }
+{
+    let len = block[k] as usize;
+    terms::read_term(&block[at..at + len], n)
+}
+
 // The block of a grant in a job of n names: its form, then its three terms, each read as a part of the block.
 fn read_grant(block: &[u8], n: u64) -> GrantReading
     requires { ⌜ 512 ≤ length (now block) ⌝ }
@@ -169,18 +180,15 @@ fn read_grant(block: &[u8], n: u64) -> GrantReading
     if !form {
         return GrantReading::Refused(13);
     }
-    let len = block[1] as usize;
-    let p = terms::read_term(&block[16..16 + len], n);
+    let p = read_at(block, 1, 16, n);
     let TermReading::Accepted = p else {
         return GrantReading::Refused(14);
     };
-    let len = block[2] as usize;
-    let q = terms::read_term(&block[80..80 + len], n);
+    let q = read_at(block, 2, 80, n);
     let TermReading::Accepted = q else {
         return GrantReading::Refused(14);
     };
-    let len = block[3] as usize;
-    let label = terms::read_term(&block[144..144 + len], n);
+    let label = read_at(block, 3, 144, n);
     let TermReading::Accepted = label else {
         return GrantReading::Refused(14);
     };
@@ -240,6 +248,21 @@ pub fn read_ledger(ledger: &[u8]) -> LedgerReading
         names: n,
         grants: count,
     }
+}
+
+// Reads a ledger, and then the label that it is asked under: the ledger's refusals, then the label's, 41 to 44.
+pub fn read_book(ledger: &[u8], label: &[u8]) -> LedgerReading
+    ensures { λ r. ⌜ r ≡ bookReading (readBook (now (ledger .entry)) (now (label .entry))) ⌝ }
+{
+    let read = read_ledger(ledger);
+    let LedgerReading::Accepted { names, grants } = read else {
+        return read;
+    };
+    let term = terms::read_term(label, names);
+    let TermReading::Accepted = term else {
+        return LedgerReading::Refused(40 + terms::term_refusal(term));
+    };
+    LedgerReading::Accepted { names, grants }
 }
 
 // The number of the refusal of a ledger, 0 where there is none.

@@ -1,15 +1,16 @@
 -- The search for the first coalition that refutes, word by word (document 01: "the see side first, then the lowest number that refutes").
 -- Assumes nothing: these are definitions.
 use mathlib.Core.Path.{_≡_}
-use mathlib.Core.Bool.{Bool, false, not, _&&_}
-use Prim.Native.Nat.{ℕ, _+_, _*_, _^_, _<_}
+use mathlib.Core.Bool.{false, not, _&&_}
+use Prim.Native.Nat.{ℕ, _+_, _*_, _%_, _^_}
 use lib.Dec.{ltb}
 use Rattle.model.specs.Questions as model
 use Rattle.model.specs.Sides.{confidentiality, integrity}
-use Rattle.model.specs.Coalitions.{Marks, nowhere, at, lowest, mark, packed}
+use Rattle.model.specs.Coalitions.{member, Lowest, Marks, nowhere, at, lowest, mark}
 use Rattle.model.specs.Terms.{Term, held}
 use Rattle.model.specs.Questions.{refutes, ground, judge, across}
 use Rattle.words.specs.Evaluation.{jobOf, WordsAt}
+use Rattle.words.specs.declared.Words.{Words}
 use Rattle.questions.specs.declared.Answer.{Answer}
 use Rattle.questions.specs.declared.Answer.the-variants.{Yes, No}
 use Rattle.questions.specs.declared.Relation.{Relation}
@@ -49,9 +50,14 @@ opposedOf relation n p q s c = ltb c (2 ^ n) && (fromOf relation p q s c && not 
 abbrev pub refutersOf : Relation → ℕ → Marks → Term → Term → Marks
 refutersOf relation n S p q s = mark (jobOf n) (refutes S (fromOf relation p q) (toOf relation p q) s)
 
--- r is the lowest coalition of f in word w, where f has none below it
-abbrev pub LowestIn : (ℕ → Bool) → ℕ → ℕ → ℕ → Type 0
-LowestIn f w word r = w < 64 → lowest f (64 * w) ≡ nowhere → word ≡ packed f (64 * w) 64 → (word ≡ 0 → ⊥) → lowest f (64 * (w + 1)) ≡ at r
+-- the number of the lowest bit of a word that is set
+abbrev pub lowestBit : ℕ → Lowest
+lowestBit x = lowest (λ j. member j x) 64
+
+-- the coalition of a bit of word w; there are 64 words at most
+abbrev pub placed : ℕ → Lowest → Lowest
+placed w nowhere = nowhere
+placed w (at j) = at (64 * (w % 64) + j)
 
 -- the see side alone
 abbrev pub seeOnly : Marks → Marks
@@ -62,6 +68,20 @@ seeOnly f integrity = λ c. false
 abbrev pub stillOf : Verdict → Marks → Marks
 stillOf Holds f = f
 stillOf (Refuted s c) f = seeOnly f
+
+-- and of two words those that can
+abbrev pub stillWords : Verdict → Words → Words
+stillWords Holds both = both
+stillWords (Refuted s c) both = record { see = both .see; change = 0 }
+
+-- what was found, or the first in word w, these being the lowest bits of its refuters: one on the see side comes before what was found
+abbrev pub laterOf : Lowest → Lowest → model.Verdict → model.Verdict
+laterOf (at c) change found = model.refuted confidentiality c
+laterOf nowhere (at c) found = model.refuted integrity c
+laterOf nowhere nowhere found = found
+
+abbrev pub furtherOf : Verdict → ℕ → Lowest → Lowest → model.Verdict
+furtherOf found w see change = laterOf (placed w see) (placed w change) (verdictOf found)
 
 -- the first of the refuters R below k
 abbrev pub foundTo : Marks → ℕ → model.Verdict

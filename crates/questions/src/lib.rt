@@ -3,15 +3,13 @@ use ledgers::LedgerReading;
 use terms::TermReading;
 use words::Words;
 ghost use mathlib.Core.Path.{_≡_};
-ghost use mathlib.Core.Bool.{Bool};
-ghost use Prim.Native.Nat.{ℕ, _+_, _*_, _<_};
-ghost use Rattle.model.specs.Coalitions.{Marks};
+ghost use Rattle.model.specs.Coalitions.{at};
 ghost use Rattle.model.specs.Questions.{ask, actsFor, flowsTo};
 ghost use Rattle.words.specs.AnyBytes.{termIn};
 ghost use Rattle.words.specs.Evaluation.{jobOf, WordsAt};
 ghost use Rattle.soundness.specs.Keeping.{soundIn};
 ghost use Rattle.questions.specs.Answers.{answerOf, relationOf};
-ghost use Rattle.questions.specs.Searching.{opposedOf, judgeOf, verdictOf, verdictAnswer, stillOf, LowestIn, Deciding, foundTo};
+ghost use Rattle.questions.specs.Searching.{opposedOf, judgeOf, verdictOf, verdictAnswer, lowestBit, placed, stillWords, furtherOf};
 
 pub enum Side {
     See,
@@ -60,16 +58,16 @@ pub fn opposed(relation: Relation, n: u64, p: &[u8], q: &[u8], w: u64) -> Words
     }
 }
 
-// The number of the lowest coalition of word w that is set; there are 64 words at most.
+// The number of the lowest coalition of word w that is set, where one is; there are 64 words at most.
 fn lowest_of(w: u64, word: u64) -> u16
-    ensures { λ r. ⌜ ((f : ℕ → Bool) → LowestIn f w word r) ⌝ }
+    ensures { λ r. ⌜ ((word ≡ 0 → ⊥) → placed w (lowestBit word) ≡ at r) ⌝ }
 {
     (64 * (w % 64) + words::lowest(word)) as u16
 }
 
 // Those of two words that can still decide: once there is a ground on the change side, those of the see side alone.
 pub fn still(found: Verdict, both: Words) -> Words
-    ensures { λ r. ⌜ ((f : Marks) (w : ℕ) → WordsAt f w (both .see) (both .change) → WordsAt (stillOf found f) w (r .see) (r .change)) ⌝ }
+    ensures { λ r. ⌜ r ≡ stillWords found both ⌝ }
 {
     let Verdict::Holds = found else {
         return Words {
@@ -82,7 +80,7 @@ pub fn still(found: Verdict, both: Words) -> Words
 
 // The first refuter once word w is searched too, `left` being the refuters in it that can still decide.
 pub fn further(found: Verdict, w: u64, left: Words) -> Verdict
-    ensures { λ r. ⌜ ((R : Marks) → w < 64 → Deciding R found w (left .see) (left .change) → verdictOf r ≡ foundTo R (64 * (w + 1))) ⌝ }
+    ensures { λ r. ⌜ verdictOf r ≡ furtherOf found w (lowestBit (left .see)) (lowestBit (left .change)) ⌝ }
 {
     if left.see != 0 {
         return Verdict::Refuted(Side::See, lowest_of(w, left.see));

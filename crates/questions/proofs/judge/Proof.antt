@@ -11,7 +11,7 @@ use Rattle.words.proofs.Names.{words-few}
 use Rattle.words.proofs.Searches.{lowest-zero}
 use Rattle.soundness.specs.Keeping.{soundIn}
 use Rattle.questions.specs.Searching.{verdictOf, opposedOf, refutersOf, foundTo, Deciding}
-use Rattle.questions.proofs.Searching.{see-still, see-clear, found-none, found-see, found-all, deciding-words}
+use Rattle.questions.proofs.Searching.{still-words, further-is, see-still, see-clear, found-none, found-see, found-all, deciding-words}
 use Rattle.questions.proofs.judge.Statement.{statement}
 use Rattle.questions.proofs.judge.Tie as tie
 
@@ -47,7 +47,7 @@ deciding c =
       clear = o .loop .inv .2;
       so-far = o .loop .inv .3;
       words = deciding-words (a .relation) (a .n) (soundIn (a .ledger .now) (a .grants) (a .counted)) (termIn (a .p .now)) (termIn (a .q .now)) (o .loop .found) (o .loop .w) _ _ (few i)
-          (c .keep-all .ensures _ (c .before .still .ensures (opposedOf (a .relation) (a .n) (termIn (a .p .now)) (termIn (a .q .now))) (o .loop .w) (c .before .before .opposed .ensures)));
+          (c .keep-all .ensures _ (still-words (o .loop .found) (opposedOf (a .relation) (a .n) (termIn (a .p .now)) (termIn (a .q .now))) (o .loop .w) _ _ _ (c .before .before .opposed .ensures) (c .before .still .ensures)));
     }
 
 word-count-requires : tie.Need-word-count-requires Inv-loop μ-loop
@@ -78,7 +78,8 @@ returns c =
     let o = i .before in
     let a = start o .args in
     let d = deciding k in
-    c .before .before .further .ensures (refuters o) (few i) d
+    c .before .before .further .ensures
+    ∙ further-is (refuters o) (o .loop .w) _ _ (o .loop .found) (few i) d
     ∙ found-see (refuters o) (o .loop .w) _ (64 * wordCount (a .n)) (d .clear) (see-still (refuters o) (o .loop .found) (o .loop .w) _ (d .words .see-word)) (c .if1 .taken) (omega arith)
     ∙ found-all (a .relation) (a .n) _ _ _
 
@@ -96,8 +97,8 @@ loop-again c =
     let d = deciding k in (
       o .loop .inv .0,
       omega arith,
-      see-clear (refuters o) (o .loop .w) _ (d .clear) (see-still (refuters o) (o .loop .found) (o .loop .w) _ (d .words .see-word)) (c .if1 .left),
-      c .before .before .further .ensures (refuters o) (few i) d,
+      see-clear (refuters o) (o .loop .w) _ (k .keep-all .result .change) (d .clear) (see-still (refuters o) (o .loop .found) (o .loop .w) _ (d .words .see-word)) (c .if1 .left),
+      c .before .before .further .ensures ∙ further-is (refuters o) (o .loop .w) _ _ (o .loop .found) (few i) d,
     )
 
 returns-2 : tie.Need-returns-2 Inv-loop μ-loop

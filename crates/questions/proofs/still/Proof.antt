@@ -1,6 +1,5 @@
 -- `questions::still` meets its contract. Assumes nothing.
 use borrow.Author.Needs.{needs}
-use Rattle.questions.proofs.Searching.{see-words}
 use Rattle.questions.proofs.still.Statement.{statement}
 use Rattle.questions.proofs.still.Tie as tie
 
@@ -11,10 +10,10 @@ enum-told-2 : tie.Need-enum-told-2
 enum-told-2 c = search needs
 
 returns : tie.Need-returns
-returns c f w h = rw (c .enum-told2 .given .1) (see-words f w _ _ h)
+returns c = rw (c .enum-told2 .given .1)
 
 returns-2 : tie.Need-returns-2
-returns-2 c f w h = rw (c .enum-told .given .1) h
+returns-2 c = rw (c .enum-told .given .1)
 
 pub still-spec : {M : Type 1} → statement M
 still-spec = tie.close (tie.spec enum-told enum-told-2 returns returns-2)

@@ -6,21 +6,17 @@ use native.Mathlib.Decide.{decLt}
 use native.Mathlib.Omega.{arith}
 use borrow.Author.Tests.{lt-ltb, le-ltb}
 use Rattle.model.specs.Readings.{accepted}
-use Rattle.model.specs.Terms.{Term, top, readTerm}
-use Rattle.model.specs.Grants.{Grant, under, ofGrant, countsUnder}
+use Rattle.model.specs.Terms.{Term, readTerm}
+use Rattle.model.specs.Grants.{under, ofGrant, countsUnder}
 use Rattle.model.specs.Ledgers.{Ledger}
 use Rattle.model.specs.Meanings.{grantBits}
 use Rattle.model.proofs.Prefixes.{ofGrant-getD, ofGrant-past}
 use Rattle.model.proofs.Stands.{LedgerStands, ledger-stands}
 use Rattle.ledgers.specs.Readings.{LedgerOf}
-use Rattle.words.proofs.AnyBytes.{term-in, grant-in}
+use Rattle.words.proofs.AnyBytes.{noGrant, term-in, grant-in}
 use Rattle.words.proofs.Names.{job-is}
 use Rattle.words.proofs.Packing.{packed-cong}
 use Rattle.counting.specs.Counted.{countsIn, countedIn}
-
--- what stands for a grant past the last
-abbrev noGrant : Grant
-noGrant = record { p = top; q = top; label = top }
 
 module _ (bytes : List ℕ) (n grants : ℕ) (l : Ledger) (h : LedgerOf bytes n grants l) where
   stands : LedgerStands bytes l

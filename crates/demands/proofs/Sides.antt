@@ -6,7 +6,7 @@ use Prim.Native.Nat.{ℕ}
 use Rattle.model.specs.Sides.{Side, confidentiality, integrity}
 use Rattle.model.specs.Terms.{Term, name, top, bottom, conj, disj, project, NamesBelow, held}
 use Rattle.model.specs.Grants.{Grant, voice}
-use Rattle.demands.specs.Algebra.{ActsFor, botR, topL, self, proj, projR, conjL₁, conjL₂, conjR, disjL, disjR₁, disjR₂, then, distr, conj-project, disj-project, basis, crossed, grant, Same, sideOf, normal, voiceOf, Unprojected, HasNormalForm, VoiceOfNormalForms, VoiceIsHeld}
+use Rattle.demands.specs.Algebra.{ActsFor, botR, topL, self, proj, projR, conjL₁, conjL₂, conjR, disjL, disjR₁, disjR₂, then, distr, conj-project, disj-project, basis, crossed, grant, Same, onSide, normal, voiceOf, Unprojected, HasNormalForm, VoiceOfNormalForms, VoiceIsHeld}
 use Rattle.demands.proofs.Principals.{projection-laws}
 
 -- equality in the algebra, and its use inside a term
@@ -33,18 +33,18 @@ module _ {G : List Grant} where
   off : (s t : Side) (p : Term) → Same G (project s (project t p)) bottom → Same G (project s (project t p)) (project s bottom)
   off s t p e = chained e (projR s, botR)
 
-  -- on its side a term is the part that `sideOf` takes out
-  side-same : (s : Side) (t : Term) → Same G (project s t) (project s (sideOf s t))
-  unfolding sideOf
+  -- on its side a term is the part that `onSide` takes out
+  side-same : (s : Side) (t : Term) → Same G (project s t) (project s (onSide s t))
+  unfolding onSide
   side-same s (name i) = alike
   side-same s top = alike
   side-same s bottom = alike
   side-same s (conj p q) =
       chained (flipped (projection-laws G .conjunction s p q))
-      (chained (in-conj (side-same s p) (side-same s q)) (projection-laws G .conjunction s (sideOf s p) (sideOf s q)))
+      (chained (in-conj (side-same s p) (side-same s q)) (projection-laws G .conjunction s (onSide s p) (onSide s q)))
   side-same s (disj p q) =
       chained (flipped (projection-laws G .disjunction s p q))
-      (chained (in-disj (side-same s p) (side-same s q)) (projection-laws G .disjunction s (sideOf s p) (sideOf s q)))
+      (chained (in-disj (side-same s p) (side-same s q)) (projection-laws G .disjunction s (onSide s p) (onSide s q)))
   side-same confidentiality (project confidentiality p) = chained (projection-laws G .idempotent confidentiality p) (side-same confidentiality p)
   side-same confidentiality (project integrity p) = off confidentiality integrity p (projection-laws G .composed integrity p)
   side-same integrity (project confidentiality p) = off integrity confidentiality p (projection-laws G .composed confidentiality p)
@@ -54,8 +54,8 @@ module _ {G : List Grant} where
   unfolding normal
   normal-same t = chained (projection-laws G .whole t) (in-conj (side-same confidentiality t) (side-same integrity t))
 
-side-unprojected : (s : Side) (t : Term) → Unprojected (sideOf s t)
-unfolding sideOf Unprojected
+side-unprojected : (s : Side) (t : Term) → Unprojected (onSide s t)
+unfolding onSide Unprojected
 side-unprojected s (name i) = tt
 side-unprojected s top = tt
 side-unprojected s bottom = tt
@@ -69,9 +69,9 @@ side-unprojected integrity (project integrity p) = side-unprojected integrity p
 pub normal-form : (t : Term) → HasNormalForm t
 normal-form t = record { same = λ G. normal-same t; unprojected = λ s. side-unprojected s t }
 
--- on either side, the part that `sideOf` takes out is held where the term is held on that side
-side-held : (s t : Side) (p : Term) (c : ℕ) → held (sideOf s p) t c ≡ held p s c
-unfolding sideOf held
+-- on either side, the part that `onSide` takes out is held where the term is held on that side
+side-held : (s t : Side) (p : Term) (c : ℕ) → held (onSide s p) t c ≡ held p s c
+unfolding onSide held
 side-held s t (name i) c = refl
 side-held s t top c = refl
 side-held s t bottom c = refl
@@ -82,8 +82,8 @@ side-held confidentiality t (project integrity p) c = refl
 side-held integrity t (project confidentiality p) c = refl
 side-held integrity t (project integrity p) c = side-held integrity t p c
 
-pub side-names : (n : ℕ) (s : Side) (t : Term) → NamesBelow n t → NamesBelow n (sideOf s t)
-unfolding sideOf NamesBelow
+pub side-names : (n : ℕ) (s : Side) (t : Term) → NamesBelow n t → NamesBelow n (onSide s t)
+unfolding onSide NamesBelow
 side-names n s (name i) l = l
 side-names n s top l = tt
 side-names n s bottom l = tt
@@ -101,8 +101,8 @@ voice-held confidentiality q c = refl
 voice-held integrity q c = ap₂ _&&_ (side-held confidentiality integrity q c) (side-held integrity integrity q c)
 
 -- a term without projections is itself on each side
-unprojected-side : (s : Side) (t : Term) → Unprojected t → sideOf s t ≡ t
-unfolding sideOf Unprojected
+unprojected-side : (s : Side) (t : Term) → Unprojected t → onSide s t ≡ t
+unfolding onSide Unprojected
 unprojected-side s (name i) u = refl
 unprojected-side s top u = refl
 unprojected-side s bottom u = refl
@@ -110,22 +110,22 @@ unprojected-side s (conj p q) u = ap₂ conj (unprojected-side s p (u .0)) (unpr
 unprojected-side s (disj p q) u = ap₂ disj (unprojected-side s p (u .0)) (unprojected-side s q (u .1))
 unprojected-side s (project t p) u = absurd u
 
-voice-same : {G : List Grant} (q : Term) {x y : Term} → Same G (sideOf confidentiality q) x → Same G (sideOf integrity q) y
+voice-same : {G : List Grant} (q : Term) {x y : Term} → Same G (onSide confidentiality q) x → Same G (onSide integrity q) y
     → Same G (voiceOf q) (conj (project integrity x) (project integrity y))
 unfolding voiceOf
 voice-same q d e = in-conj (in-project integrity d) (in-project integrity e)
 
 voice-normal : {G : List Grant} (p q : Term) → Unprojected p → Unprojected q
     → Same G (voiceOf (conj (project confidentiality p) (project integrity q))) (conj (project integrity p) (project integrity q))
-unfolding sideOf
+unfolding onSide
 voice-normal p q u v =
     voice-same (conj (project confidentiality p) (project integrity q))
     (rw (unprojected-side confidentiality p u) (conjL₁ self, conjR self botR))
     (rw (unprojected-side integrity q v) (conjL₂ self, conjR botR self))
 
 -- what acts for a term acts for it side by side: only the rules' own cases, no coalitions
-side-acts : (s : Side) {p q : Term} → ActsFor [] p q → ActsFor [] (sideOf s p) (sideOf s q)
-unfolding sideOf
+side-acts : (s : Side) {p q : Term} → ActsFor [] p q → ActsFor [] (onSide s p) (onSide s q)
+unfolding onSide
 side-acts s botR = botR
 side-acts s topL = topL
 side-acts s self = self

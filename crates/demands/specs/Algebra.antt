@@ -66,24 +66,24 @@ abbrev pub Same : List Grant → Term → Term → Type 0
 Same G p q = ActsFor G p q × ActsFor G q p
 
 -- what a term is on one side, without projections
-unfoldable pub sideOf : Side → Term → Term
-sideOf s (name i) = name i
-sideOf s top = top
-sideOf s bottom = bottom
-sideOf s (conj p q) = conj (sideOf s p) (sideOf s q)
-sideOf s (disj p q) = disj (sideOf s p) (sideOf s q)
-sideOf confidentiality (project confidentiality p) = sideOf confidentiality p
-sideOf confidentiality (project integrity p) = bottom
-sideOf integrity (project confidentiality p) = bottom
-sideOf integrity (project integrity p) = sideOf integrity p
+unfoldable pub onSide : Side → Term → Term
+onSide s (name i) = name i
+onSide s top = top
+onSide s bottom = bottom
+onSide s (conj p q) = conj (onSide s p) (onSide s q)
+onSide s (disj p q) = disj (onSide s p) (onSide s q)
+onSide confidentiality (project confidentiality p) = onSide confidentiality p
+onSide confidentiality (project integrity p) = bottom
+onSide integrity (project confidentiality p) = bottom
+onSide integrity (project integrity p) = onSide integrity p
 
 -- A term's normal form: a part without projections on each side (section 3.2.3).
 unfoldable pub normal : Term → Term
-normal t = conj (project confidentiality (sideOf confidentiality t)) (project integrity (sideOf integrity t))
+normal t = conj (project confidentiality (onSide confidentiality t)) (project integrity (onSide integrity t))
 
 -- Definition 7, of the normal form: what q is on either side, as integrity
 unfoldable pub voiceOf : Term → Term
-voiceOf q = conj (project integrity (sideOf confidentiality q)) (project integrity (sideOf integrity q))
+voiceOf q = conj (project integrity (onSide confidentiality q)) (project integrity (onSide integrity q))
 
 -- no projection occurs in the term
 unfoldable pub Unprojected : Term → Type 0
@@ -133,7 +133,7 @@ SpokenIsActsForVoice = (n : ℕ) (q d : Term) → NamesBelow n q → NamesBelow 
 -- Every term equals its normal form, whose two parts have no projections.
 pub record HasNormalForm (t : Term) : Type 0 where
   pub same : (G : List Grant) → Same G t (normal t)
-  pub unprojected : (s : Side) → Unprojected (sideOf s t)
+  pub unprojected : (s : Side) → Unprojected (onSide s t)
 
 abbrev pub NormalForms : Type 0
 NormalForms = (t : Term) → HasNormalForm t

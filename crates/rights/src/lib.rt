@@ -34,8 +34,8 @@ fn checked_number(checked: Checked) -> u32
 {
     match checked {
         Checked::Accepted => 0,
-        Checked::Refused(r) => 2 * 65536 + r as u32,
-        Checked::RefusedAt(step, r) => 2 * 65536 + (step as u32 * 256 + r as u32),
+        Checked::Refused(r) => 131072 + r as u32,
+        Checked::RefusedAt(step, r) => 131072 + (step as u32 * 256 + r as u32),
     }
 }
 

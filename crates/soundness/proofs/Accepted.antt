@@ -9,7 +9,7 @@ use lib.Seq.{take-all}
 use Rattle.model.specs.Sides.{Side}
 use Rattle.model.specs.Readings.{accepted}
 use Rattle.model.specs.Coalitions.{member, implies, every}
-use Rattle.model.specs.Terms.{Term, top, readTerm}
+use Rattle.model.specs.Terms.{Term, readTerm}
 use Rattle.model.specs.Grants.{under, marksOf, countsUnder, soundOf, Grant, keeps, chosen}
 use Rattle.model.specs.Ledgers.{Ledger, readLedger}
 use Rattle.model.specs.Questions.{soundUnder}
@@ -17,15 +17,11 @@ use Rattle.model.specs.Meanings.{grantBits}
 use Rattle.model.proofs.Prefixes.{ofGrant-getD, bits-say, sound-none, sound-more}
 use Rattle.model.proofs.Stands.{ledger-stands}
 use Rattle.words.specs.AnyBytes.{grantIn}
-use Rattle.words.proofs.AnyBytes.{grant-in}
+use Rattle.words.proofs.AnyBytes.{noGrant, grant-in}
 use Rattle.ledgers.specs.Readings.{LedgerOf}
 use Rattle.counting.specs.Counted.{countedIn}
 use Rattle.counting.proofs.Accepted.{counted-in}
 use Rattle.soundness.specs.Keeping.{soundIn}
-
--- what stands for a grant past the last
-abbrev noGrant : Grant
-noGrant = record { p = top; q = top; label = top }
 
 -- the coalitions that keep the grants of these bits are those that keep the grants at which the test holds
 sound-in : (bytes : List ℕ) (grants : ℕ) (l : Ledger) (f : Grant → Bool) → readLedger bytes ≡ accepted l → grants ≡ length (l .grants)

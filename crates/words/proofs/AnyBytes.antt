@@ -70,6 +70,10 @@ term-codes n bytes t e below = ap (λ (cs : List ℕ). termIn cs) (e ∙ sym (ap
 pub term-in : (n : ℕ) (bytes : List ℕ) (t : Term) → readTerm n bytes ≡ accepted t → termIn bytes ≡ t
 term-in n bytes t e = let h = accepted-codes n bytes t .0 e in term-codes n bytes t (h .0) (h .1)
 
+-- what stands for a grant past the last
+abbrev pub noGrant : Grant
+noGrant = record { p = top; q = top; label = top }
+
 -- Block k of an accepted ledger stands for grant k; `other` is any grant, for a k past the last.
 pub grant-in : (bytes : List ℕ) (l : Ledger) (k : ℕ) (other : Grant) → readLedger bytes ≡ accepted l → k < length (l .grants) → grantIn bytes k ≡ getD (l .grants) k other
 grant-in bytes l k other e below =

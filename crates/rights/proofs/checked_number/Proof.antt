@@ -10,9 +10,6 @@ enum-told c = search needs
 enum-known-checked : tie.Need-enum-known-checked
 enum-known-checked c = search needs
 
-mul-result : tie.Need-mul-result
-mul-result c = search needs
-
 cast-result : tie.Need-cast-result
 cast-result c = search needs
 
@@ -22,14 +19,11 @@ add-result c = search needs
 enum-known-checked-2 : tie.Need-enum-known-checked-2
 enum-known-checked-2 c = search needs
 
-mul-result-2 : tie.Need-mul-result-2
-mul-result-2 c = search needs
-
 cast-result-2 : tie.Need-cast-result-2
 cast-result-2 c = search needs
 
-mul-result-3 : tie.Need-mul-result-3
-mul-result-3 c = search needs
+mul-result : tie.Need-mul-result
+mul-result c = search needs
 
 cast-result-3 : tie.Need-cast-result-3
 cast-result-3 c = search needs
@@ -58,13 +52,11 @@ checked-number-spec =
     (tie.spec
     enum-told
     enum-known-checked
-    mul-result
     cast-result
     add-result
     enum-known-checked-2
-    mul-result-2
     cast-result-2
-    mul-result-3
+    mul-result
     cast-result-3
     add-result-2
     add-result-3

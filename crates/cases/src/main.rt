@@ -7,7 +7,7 @@ ghost use mathlib.Core.Bool.{true};
 ghost use mathlib.Core.List.{_++_};
 ghost use Prim.Native.Nat.{_+_, _-_, _≤_, _<_};
 ghost use lib.ListN.{length, replicate};
-ghost use Rattle.model.specs.Bytes.{twoBytes, field};
+ghost use Rattle.model.specs.Bytes.{field, twoBytes};
 ghost use Rattle.cases.specs.Records.{fourBytes, eightBytes, inputLength, inputStart, Whole, Within};
 
 // Kind 2 of an answer, refused, without its figure.

@@ -1,4 +1,4 @@
--- Words of the coalitions that bar a grant from counting, or p from acting for q. Assumes nothing.
+-- Words of the coalitions that bar a grant from counting. Assumes nothing.
 use mathlib.Core.Path.{_≡_, sym, _∙_}
 use mathlib.Core.Bool.{Bool, _||_}
 use Prim.Native.Nat.{ℕ, _-_, _*_}
@@ -7,7 +7,7 @@ use Rattle.model.specs.Sides.{confidentiality, integrity}
 use Rattle.model.specs.Coalitions.{mark, packed}
 use Rattle.model.specs.Terms.{Term, held}
 use Rattle.model.specs.Grants.{Grant, marksOf, voice}
-use Rattle.model.proofs.Bars.{lacks, barsCounting, barsActing}
+use Rattle.model.proofs.Bars.{lacks, barsCounting}
 use Rattle.words.specs.Evaluation.{heldWord, coalitionWord, WordsAt}
 use Rattle.words.proofs.Packing.{packed-and, packed-or, packed-lacks, packed-zero}
 use Rattle.words.proofs.Searches.{packed-mark}
@@ -43,19 +43,3 @@ counting-word n L g w mask ls lc ds dc us m a b d u =
     (rw (packed-or (lacks (see L) (see (g .label))) (lacks (change (g .label)) (change L)) i 64)
     (rw (packed-or (λ c. lacks (see L) (see (g .label)) c || lacks (change (g .label)) (change L) c) (lacks (change (g .label)) (voice (held (g .q)) integrity)) i 64)
     (packed-mark n (barsCounting (held L) (marksOf g)) w))))
-
--- of the coalitions of the mask, those that hold p and not q on a side
-abbrev pub actingWord : (mask ps pc qs qc : ℕ) → ℕ
-actingWord mask ps pc qs qc = bitAnd mask (bitOr (bitAnd ps (0xFFFF_FFFF_FFFF_FFFF - qs)) (bitAnd pc (0xFFFF_FFFF_FFFF_FFFF - qc)))
-
-pub acting-word : (n : ℕ) (p q : Term) (w mask ps pc qs qc : ℕ) → mask ≡ coalitionWord n w → WordsAt (held p) w ps pc → WordsAt (held q) w qs qc
-    → actingWord mask ps pc qs qc ≡ packed (mark n (barsActing p q)) (64 * w) 64
-unfolding barsActing
-acting-word n p q w mask ps pc qs qc m a b =
-    let i = 64 * w in
-    let see : Term → ℕ → Bool = λ t. held t confidentiality in
-    let change : Term → ℕ → Bool = λ t. held t integrity in
-    rw (m, a .see-word, a .change-word, b .see-word, b .change-word)
-    (rw (packed-lacks (see p) (see q) i, packed-lacks (change p) (change q) i)
-    (rw (packed-or (lacks (see p) (see q)) (lacks (change p) (change q)) i 64)
-    (packed-mark n (barsActing p q) w)))

@@ -1,11 +1,11 @@
-// Which grants count under a label, and what acts for what statically (document 01, "Terms" and "Grants that count").
+// Which grants count under a label (document 01, "Grants that count").
 ghost use mathlib.Core.Path.{_≡_};
 ghost use mathlib.Core.Bool.{Bool, not, _&&_};
 ghost use Prim.Native.Nat.{ℕ, _*_};
 ghost use Rattle.model.specs.Sides.{integrity};
 ghost use Rattle.model.specs.Coalitions.{packed};
 ghost use Rattle.model.specs.Terms.{Term, held};
-ghost use Rattle.model.specs.Grants.{Grant, under, actsStatically, voice, countsUnder};
+ghost use Rattle.model.specs.Grants.{Grant, under, voice, countsUnder};
 ghost use Rattle.words.specs.AnyBytes.{termIn};
 ghost use Rattle.words.specs.Evaluation.{jobOf};
 ghost use Rattle.counting.specs.Counted.{countedIn, GrantGiven};
@@ -62,24 +62,4 @@ pub fn counted(ledger: &[u8], n: u64, grants: usize, label: &[u8]) -> u64
         counted = (counted << 1) | (counts as u64);
     }
     counted
-}
-
-// Statically p acts for q, in a job of n names.
-pub fn acts_statically(n: u64, p: &[u8], q: &[u8]) -> bool
-    ensures { λ r. ⌜ r ≡ actsStatically (jobOf n) (termIn (now (p .entry))) (termIn (now (q .entry))) ⌝ }
-{
-    let words = words::word_count(n);
-    let mut w: u64 = 0;
-    while w < words {
-        let from = words::words_of(p, w);
-        let to = words::words_of(q, w);
-        let unseen = from.see & !to.see;
-        let unchanged = from.change & !to.change;
-        let mask = words::low_mask(n, w);
-        if mask & (unseen | unchanged) != 0 {
-            return false;
-        }
-        w += 1;
-    }
-    true
 }

@@ -7,7 +7,7 @@ use mathlib.Core.Bool.{true}
 use mathlib.Core.List.{List, [], List·Memᴰ}
 use Rattle.model.specs.Sides.{Side, confidentiality, integrity}
 use Rattle.model.specs.Terms.{Term, name, top, bottom, conj, disj, project, NamesBelow, held}
-use Rattle.model.specs.Grants.{Under, Grant, actsStatically, visible, voice, spoken, counting, soundOf}
+use Rattle.model.specs.Grants.{Grant, Under, voice, visible, spoken, actsStatically, counting, soundOf}
 use Rattle.model.specs.Ledgers.{Ledger}
 use Rattle.model.specs.Answers.{Yes}
 use Rattle.model.specs.Questions.{actsFor, flowsTo}

@@ -7,7 +7,7 @@ use mathlib.Core.Bool.{true}
 use mathlib.Core.List.{List, List·Memᴰ}
 use Rattle.model.specs.Sides.{Side}
 use Rattle.model.specs.Terms.{Term, conj, disj, project, NamesBelow}
-use Rattle.model.specs.Grants.{Under, Grant, actsStatically, counting}
+use Rattle.model.specs.Grants.{Grant, Under, actsStatically, counting}
 use Rattle.model.specs.Ledgers.{Ledger}
 use Rattle.model.specs.Answers.{Yes}
 use Rattle.model.specs.Questions.{actsFor}

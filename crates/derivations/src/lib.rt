@@ -353,7 +353,7 @@ fn meets(derivation: &[u8], step: &[u8], ledger: &[u8], n: u64) -> bool
     let grant = step[3] as usize;
     let rule = step[0];
     match rule {
-        1 => counting::acts_statically(n, left(step), right(step)),
+        1 => questions::acts_statically(n, left(step), right(step)),
         2 => has_terms(
             step,
             ledgers::grant_p(ledger, grant),

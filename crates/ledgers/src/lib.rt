@@ -6,7 +6,7 @@ ghost use Prim.Native.Nat.{_+_, _*_, _≤_, _<_};
 ghost use lib.ListN.{length, take};
 ghost use Rattle.model.specs.Bytes.{byte, field, twoBytes};
 ghost use Rattle.model.specs.Terms.{readTerm};
-ghost use Rattle.model.specs.Ledgers.{weighted, checked, header, grantBlocks, allChecked, headerForm, grantForm, pBytes, qBytes, labelBytes, readGrant, readGrants, readLedger, grantBlock, readBook};
+ghost use Rattle.model.specs.Ledgers.{weighted, checked, header, grantBlocks, allChecked, headerForm, grantForm, grantBlock, pBytes, qBytes, labelBytes, readGrant, readGrants, readLedger, readBook};
 ghost use Rattle.terms.specs.Readings.{termReading};
 ghost use Rattle.ledgers.specs.Forms.{termForm, Summed};
 ghost use Rattle.ledgers.specs.Readings.{grantReading, grantRefusal, ledgerReading, bookReading, ledgerRefusal};
@@ -154,11 +154,11 @@ enum GrantReading {
     Refused(u8),
 }
 
-// What reading a ledger gives.
+// What reading a ledger gives, alone or with the label that it is asked under.
 pub enum LedgerReading {
     // The number of names, and of grants.
     Accepted { names: u64, grants: usize },
-    // The number of the refusal, 10 to 14.
+    // The number of the refusal: the ledger's 10 to 14, the label's 41 to 44.
     Refused(u8),
 }
 

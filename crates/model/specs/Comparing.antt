@@ -5,7 +5,7 @@ use mathlib.Core.Bool.{true, not}
 use mathlib.Core.List.{List, [], _∷_}
 use Rattle.model.specs.Sides.{Side, confidentiality}
 use Rattle.model.specs.Readings.{Reading, accepted, andThen}
-use Rattle.model.specs.Coalitions.{Marks, member, those}
+use Rattle.model.specs.Coalitions.{member, Marks, those}
 use Rattle.model.specs.Terms.{Term, name, top, bottom, conj, disj, project}
 use Rattle.model.specs.Grants.{readUnder}
 use Rattle.model.specs.Ledgers.{readLedger}

@@ -1,13 +1,13 @@
 -- Document 01, "Terms": what a term is, its codes, how bytes are read as a term, and where a term is held.
 -- Assumes nothing: these are definitions.
-use Rattle.model.specs.Sides.{Side, confidentiality, integrity}
-use Rattle.model.specs.Readings.{Reading, accepted, refused, require}
-use Rattle.model.specs.Coalitions.{member}
 use Prim.Native.Nat.{ℕ, zero, suc, _<_}
 use mathlib.Core.Bool.{Bool, true, false, cond, _&&_, _||_}
 use mathlib.Core.List.{List, [], _∷_, _++_}
 use lib.Dec.{eqb, ltb, leb}
 use lib.ListN.{length}
+use Rattle.model.specs.Sides.{Side, confidentiality, integrity}
+use Rattle.model.specs.Readings.{Reading, accepted, refused, require}
+use Rattle.model.specs.Coalitions.{member}
 
 -- A name; the strongest party; the weakest; both of two terms; either of them; one side of a term.
 pub data Term : Type 0 where

@@ -1,17 +1,19 @@
 -- Words of the coalitions that refute if they are sound, and what is judged where the bytes are accepted. Assumes nothing.
 use mathlib.Core.Path.{_≡_, refl, ap, _∙_}
 use mathlib.Core.Bool.{Bool, true, false, not, _&&_}
+use mathlib.Core.Logic.{_↔_}
 use Prim.Native.Nat.{ℕ, _-_, _*_, _^_, _<_}
 use lib.Bits.{bitAnd}
 use lib.Dec.{ltb}
 use Rattle.model.specs.Sides.{Side, confidentiality, integrity}
 use Rattle.model.specs.Coalitions.{Marks, mark, packed}
 use Rattle.model.specs.Terms.{Term, held}
-use Rattle.model.specs.Grants.{Under}
+use Rattle.model.specs.Grants.{Under, actsStatically}
 use Rattle.model.specs.Ledgers.{Ledger}
-use Rattle.model.specs.Questions.{answerTo, refutes, across, soundUnder, actsForUnder, flowsToUnder}
+use Rattle.model.specs.Questions.{refutes, holds, judge, answerTo, across, soundUnder, actsForUnder, flowsToUnder}
 use Rattle.model.proofs.Bars.{lacks}
-use Rattle.model.proofs.Judge.{judge-cong}
+use Rattle.model.proofs.Judge.{judge-yes, judge-cong}
+use Rattle.model.proofs.Sound.{static-says}
 use Rattle.words.specs.Evaluation.{coalitionWord, jobOf, WordsAt}
 use Rattle.words.proofs.Packing.{packed-and, packed-lacks}
 use Rattle.words.proofs.Names.{few-coalitions}
@@ -59,3 +61,10 @@ pub judged-under : (relation : Relation) (n : ℕ) (l : Ledger) (u : Under) (p q
 unfolding actsForUnder flowsToUnder
 judged-under ActsFor n l u p q S e h = ap answerTo (judge-cong n S (soundUnder l u) (held p) (held q) (λ s c _. h s c)) ∙ rw e
 judged-under FlowsTo n l u p q S e h = ap answerTo (judge-cong n S (soundUnder l u) (across q p) (across p q) (λ s c _. h s c)) ∙ rw e
+
+-- where every coalition is marked, what is judged of p and q is whether p acts for q statically
+pub judged-static : (n : ℕ) (S : Marks) (p q : Term) → ((s : Side) (c : ℕ) → S s c ≡ true) → judge n S (held p) (held q) ≡ holds ↔ actsStatically n p q ≡ true
+judged-static n S p q all = (
+  λ e. static-says n p q .1 (λ s c b. judge-yes n S (held p) (held q) .0 e s c b (all s c)),
+  λ e. judge-yes n S (held p) (held q) .1 (λ s c b _. static-says n p q .0 e s c b),
+)

@@ -1,6 +1,6 @@
 -- What each case of a question and of an answer stands for in document 01, "Acts-for question" and "Flows-to question".
 -- Assumes nothing: these are definitions.
-use Rattle.model.specs.Sides.{confidentiality, integrity, Side as ModelSide}
+use Rattle.model.specs.Sides.{Side as ModelSide, confidentiality, integrity}
 use Rattle.model.specs.Terms.{Term}
 use Rattle.model.specs.Grants.{Under}
 use Rattle.model.specs.Ledgers.{Ledger}

@@ -6,7 +6,7 @@ use Prim.Native.Nat.{ℕ, _+_, _*_, _%_, _^_}
 use lib.Dec.{ltb}
 use Rattle.model.specs.Questions as model
 use Rattle.model.specs.Sides.{confidentiality, integrity}
-use Rattle.model.specs.Coalitions.{member, Lowest, Marks, nowhere, at, lowest, mark}
+use Rattle.model.specs.Coalitions.{member, Marks, Lowest, nowhere, at, lowest, mark}
 use Rattle.model.specs.Terms.{Term, held}
 use Rattle.model.specs.Questions.{refutes, ground, judge, across}
 use Rattle.words.specs.Evaluation.{jobOf, WordsAt}

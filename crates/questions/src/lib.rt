@@ -4,6 +4,7 @@ use terms::TermReading;
 use words::Words;
 ghost use mathlib.Core.Path.{_≡_};
 ghost use Rattle.model.specs.Coalitions.{at};
+ghost use Rattle.model.specs.Grants.{actsStatically};
 ghost use Rattle.model.specs.Questions.{ask, actsFor, flowsTo};
 ghost use Rattle.words.specs.AnyBytes.{termIn};
 ghost use Rattle.words.specs.Evaluation.{jobOf, WordsAt};
@@ -116,6 +117,17 @@ fn judge(
         w += 1;
     }
     found
+}
+
+// Statically p acts for q, in a job of n names: no grant is kept, and no byte of a ledger read.
+pub fn acts_statically(n: u64, p: &[u8], q: &[u8]) -> bool
+    ensures { λ r. ⌜ r ≡ actsStatically (jobOf n) (termIn (now (p .entry))) (termIn (now (q .entry))) ⌝ }
+{
+    let verdict = judge(Relation::ActsFor, &p[..0], n, 0, 0, p, q);
+    match verdict {
+        Verdict::Holds => true,
+        Verdict::Refuted(_, _) => false,
+    }
 }
 
 // The verdict as an answer.

@@ -5,7 +5,7 @@ use mathlib.Core.List.{List, [], _∷_}
 use lib.ListN.{length, drop}
 use Rattle.model.specs.Terms.{Term, top, Code, whole, one, two, none, codeOf}
 use Rattle.model.specs.Grants.{Grant}
-use Rattle.model.specs.Ledgers.{pBytes, qBytes, labelBytes, grantBlock}
+use Rattle.model.specs.Ledgers.{grantBlock, pBytes, qBytes, labelBytes}
 
 -- a term, and how many bytes it takes
 pub record Taken : Type 0 where

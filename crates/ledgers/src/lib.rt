@@ -4,7 +4,7 @@ ghost use mathlib.Core.Path.{_≡_};
 ghost use mathlib.Core.Bool.{_&&_};
 ghost use Prim.Native.Nat.{_+_, _*_, _≤_, _<_};
 ghost use lib.ListN.{length, take};
-ghost use Rattle.model.specs.Bytes.{byte, field, twoBytes};
+ghost use Rattle.model.specs.Bytes.{byte, field};
 ghost use Rattle.model.specs.Terms.{readTerm};
 ghost use Rattle.model.specs.Ledgers.{weighted, checked, header, grantBlocks, allChecked, headerForm, grantForm, grantBlock, pBytes, qBytes, labelBytes, readGrant, readGrants, readLedger, readBook};
 ghost use Rattle.terms.specs.Readings.{termReading};
@@ -52,21 +52,13 @@ fn weight(block: &[u8]) -> u32
     sum
 }
 
-// A two-byte field, big-endian.
-fn two_bytes(block: &[u8], at: usize) -> u32
-    requires { ⌜ at + 1 < length (now block) ⌝ }
-    ensures { λ r. ⌜ r ≡ twoBytes at (now (block .entry)) ⌝ }
-{
-    block[at] as u32 * 256 + block[at + 1] as u32
-}
-
 // The block's check holds.
 fn block_check(block: &[u8]) -> bool
     requires { ⌜ 512 ≤ length (now block) ⌝ }
     ensures { λ r. ⌜ r ≡ checked (now (block .entry)) ⌝ }
 {
     let sum = weight(block);
-    let check = two_bytes(block, 510);
+    let check = fields::two_bytes(block, 510);
     check == sum % 65521
 }
 
@@ -102,7 +94,7 @@ fn header_form(block: &[u8], count: usize) -> bool
     if 12 < block[1] {
         return false;
     }
-    let said = two_bytes(block, 2);
+    let said = fields::two_bytes(block, 2);
     if said as usize != count {
         return false;
     }

@@ -11,6 +11,7 @@
 # make stack-use     how much stack a call takes
 # make cases-data    the data file of the test program `cases`, made again
 # make reading-lines how many lines of definitions and statements there are to believe
+# make lines         for each crate: lines of code, of definitions, of proofs, and its must-fail edits
 
 CC = gcc
 CXX = g++
@@ -169,8 +170,17 @@ reading-lines:
 	@for crate in model demands; do \
 		echo "crates/$$crate/specs: $$(cat crates/$$crate/specs/*.antt | grep -cvE '^(use |pub mod |$$)')"; done
 
+# Blank lines are not counted, nor comments in code.
+lines:
+	@printf '%-12s %6s %6s %6s %6s\n' crate code specs proofs edits; for crate in crates/*/; do \
+		printf '%-12s %6d %6d %6d %6d\n' "$$(basename $$crate)" \
+		"$$(cat /dev/null $$(find $$crate -path '*/src/*.rt') | grep -cvE '^ *(//|$$)')" \
+		"$$(cat /dev/null $$(find $$crate -path '*/specs/*.antt') | grep -cv '^$$')" \
+		"$$(cat /dev/null $$(find $$crate -path '*/proofs/*.antt') | grep -cv '^$$')" \
+		"$$(find $$crate -name '*.edit' | wc -l)"; done
+
 clean:
 	rm -rf build
 
 .PHONY: library install uninstall c-tools fuzz-tools demo test check-c check-pkg-config check-install stack-use bench \
-	fuzz cases-data check-cases-data reading-lines clean
+	fuzz cases-data check-cases-data reading-lines lines clean

@@ -13,10 +13,11 @@ use Rattle.model.specs.Meanings.{grantBits}
 use Rattle.model.proofs.Prefixes.{ofGrant-getD, ofGrant-past}
 use Rattle.model.proofs.Stands.{LedgerStands, ledger-stands}
 use Rattle.ledgers.specs.Readings.{LedgerOf}
-use Rattle.words.proofs.AnyBytes.{noGrant, term-in, grant-in}
+use Rattle.words.proofs.AnyBytes.{term-in}
 use Rattle.words.proofs.Names.{job-is}
 use Rattle.words.proofs.Packing.{packed-cong}
 use Rattle.counting.specs.Counted.{countsIn, countedIn}
+use Rattle.counting.proofs.Standing.{noGrant, grant-in}
 
 module _ (bytes : List ℕ) (n grants : ℕ) (l : Ledger) (h : LedgerOf bytes n grants l) where
   stands : LedgerStands bytes l
@@ -26,7 +27,7 @@ module _ (bytes : List ℕ) (n grants : ℕ) (l : Ledger) (h : LedgerOf bytes n 
   pub names-few : n ≤ 12
   names-few = omega (arith, h .names, stands .names-most)
 
-  grants-few : grants ≤ 64
+  pub grants-few : grants ≤ 64
   grants-few = omega (arith, h .count, stands .count-most)
 
   module _ (L : Term) (label : List ℕ) (e : readTerm n label ≡ accepted L) where

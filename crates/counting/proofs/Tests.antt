@@ -1,45 +1,57 @@
--- Words of the coalitions that bar a grant from counting. Assumes nothing.
-use mathlib.Core.Path.{_≡_, sym, _∙_}
-use mathlib.Core.Bool.{Bool, _||_}
-use Prim.Native.Nat.{ℕ, _-_, _*_}
+-- Rows of the coalitions that bar a grant from counting. Assumes nothing.
+use mathlib.Core.Path.{_≡_, refl, sym, ap, _∙_}
+use mathlib.Core.Bool.{Bool, true, false, not, _&&_, _||_, or-false}
+use Prim.Native.Nat.{ℕ, _+_, _*_, _^_, _≤_, _<_}
+use native.Mathlib.Omega.{arith}
 use lib.Bits.{bitAnd, bitOr}
+use lib.Dec.{ltb}
 use Rattle.model.specs.Sides.{confidentiality, integrity}
-use Rattle.model.specs.Coalitions.{mark, packed}
-use Rattle.model.specs.Terms.{Term, held}
-use Rattle.model.specs.Grants.{Grant, marksOf, voice}
-use Rattle.model.proofs.Bars.{lacks, barsCounting}
-use Rattle.words.specs.Evaluation.{heldWord, coalitionWord, WordsAt}
-use Rattle.words.proofs.Packing.{packed-and, packed-or, packed-lacks, packed-zero}
-use Rattle.words.proofs.Searches.{packed-mark}
+use Rattle.model.specs.Coalitions.{Marks, mark}
+use Rattle.model.specs.Grants.{GrantMarks, voice}
+use Rattle.words.specs.declared.Row.{Row}
+use Rattle.words.specs.declared.Rows.{Rows}
+use Rattle.words.specs.FourWords.{RowAt, RowsAt, eachWord, lacks, lacksWord, emptyRow}
+use Rattle.words.specs.Evaluation.{jobOf}
+use Rattle.words.proofs.FourWords.{row-cong, row-both, row-either, row-lacks, row-empty}
+use Rattle.words.proofs.Names.{few-coalitions}
+use Rattle.counting.specs.Counted.{barsCounting}
 
--- those of a word that don't hold the voice of q, from the words of q
-pub voice-word : (q : Term) (f : ℕ → Bool) (w x qs qc : ℕ) → x ≡ packed f (64 * w) 64 → WordsAt (held q) w qs qc
-    → bitAnd x (0xFFFF_FFFF_FFFF_FFFF - bitAnd qs qc) ≡ packed (lacks f (voice (held q) integrity)) (64 * w) 64
-unfolding voice
-voice-word q f w x qs qc e h =
-    rw (e, h .see-word, h .change-word)
-    (rw (packed-and (held q confidentiality) (held q integrity) (64 * w) 64) (packed-lacks f (voice (held q) integrity) (64 * w)))
+-- those that see L and not the grant's label, or change this and not L, from the rows of both
+abbrev pub hiddenRow : Rows → Rows → Row
+hiddenRow under own = eachWord bitOr (eachWord lacksWord (under .see) (own .see)) (eachWord lacksWord (own .change) (under .change))
 
--- and of a word that is 0
-pub none-lacks : (f g : ℕ → Bool) (i x : ℕ) → x ≡ packed f i 64 → x ≡ 0 → 0 ≡ packed (lacks f g) i 64
-none-lacks f g i x e z = sym (packed-zero (lacks f g) i 64 .1 (λ c a b. rw (packed-zero f i 64 .0 (sym e ∙ z) c a b)))
+-- from the rows of the label L, of the grant's label and of its q
+module _ (L : Marks) (d : GrantMarks) (g : ℕ) (under own : Rows) (a : RowsAt L g under) (b : RowsAt (d .label) g own) where
+  -- those that show that the grant is not visible
+  hidden-row : RowAt (λ c. lacks (L confidentiality) (d .label confidentiality) c || lacks (d .label integrity) (L integrity) c) g (hiddenRow under own)
+  hidden-row =
+      row-either g _ _ _ _ (row-lacks g _ _ _ _ (a .row confidentiality) (b .row confidentiality)) (row-lacks g _ _ _ _ (b .row integrity) (a .row integrity))
 
--- what the code computes of a word: of the coalitions of the mask, those that see the label L and not the grant's label d, that change d and
--- not L, or that are among `us`, which change d and don't hold the voice of q
-abbrev pub barredWord : (mask ls lc ds dc us : ℕ) → ℕ
-barredWord mask ls lc ds dc us = bitAnd mask (bitOr (bitOr (bitAnd ls (0xFFFF_FFFF_FFFF_FFFF - ds)) (bitAnd dc (0xFFFF_FFFF_FFFF_FFFF - lc))) us)
+  -- all of them, where none changes the grant's label
+  pub bars-hidden : (r : Row) → r ≡ hiddenRow under own → emptyRow (own .change) ≡ true → RowAt (barsCounting L d) g r
+  unfolding barsCounting
+  bars-hidden r e none = rw e (row-cong g _ _ _ (λ c low high. rw (row-empty (d .label integrity) g (own .change) (b .row integrity) none c low high) (sym (or-false _))) hidden-row)
 
-pub counting-word : (n : ℕ) (L : Term) (g : Grant) (w mask ls lc ds dc us : ℕ) → mask ≡ coalitionWord n w
-    → ls ≡ heldWord L confidentiality w → lc ≡ heldWord L integrity w → WordsAt (held (g .label)) w ds dc
-    → us ≡ packed (lacks (held (g .label) integrity) (voice (held (g .q)) integrity)) (64 * w) 64
-    → barredWord mask ls lc ds dc us ≡ packed (mark n (barsCounting (held L) (marksOf g))) (64 * w) 64
-unfolding barsCounting
-counting-word n L g w mask ls lc ds dc us m a b d u =
-    let i = 64 * w in
-    let see : Term → ℕ → Bool = λ t. held t confidentiality in
-    let change : Term → ℕ → Bool = λ t. held t integrity in
-    rw (m, a, b, d .see-word, d .change-word, u)
-    (rw (packed-lacks (see L) (see (g .label)) i, packed-lacks (change (g .label)) (change L) i)
-    (rw (packed-or (lacks (see L) (see (g .label))) (lacks (change (g .label)) (change L)) i 64)
-    (rw (packed-or (λ c. lacks (see L) (see (g .label)) c || lacks (change (g .label)) (change L) c) (lacks (change (g .label)) (voice (held (g .q)) integrity)) i 64)
-    (packed-mark n (barsCounting (held L) (marksOf g)) w))))
+  -- with those that show that it is not spoken
+  pub bars-row : (q : Rows) (r : Row) → RowsAt (d .q) g q → r ≡ eachWord bitOr (hiddenRow under own) (eachWord lacksWord (own .change) (eachWord bitAnd (q .see) (q .change))) → RowAt (barsCounting L d) g r
+  unfolding barsCounting voice
+  bars-row q r h e = rw e (row-either g _ _ _ _ hidden-row (row-lacks g _ _ _ _ (b .row integrity) (row-both g _ _ _ _ (h .row confidentiality) (h .row integrity))))
+
+-- the mask leaves the coalitions of n names, and where there are none it is not needed
+module _ (n g : ℕ) (f : ℕ → Bool) (x : Row) (r : RowAt f g x) where
+  pub marked-none : emptyRow x ≡ true → RowAt (mark n f) g x
+  unfolding mark
+  marked-none e = row-cong g f (mark n f) x (λ c low high. let z = row-empty f g x r e c low high in rw z (sym (and-false (ltb c (2 ^ n))))) r
+    where
+      and-false : (b : Bool) → (b && false) ≡ false
+      and-false true = refl
+      and-false false = refl
+
+  pub marked-row : (mask y : Row) → RowAt (λ c. ltb c (2 ^ n)) g mask → y ≡ eachWord bitAnd mask x → RowAt (mark n f) g y
+  unfolding mark
+  marked-row mask y m e = rw e (row-both g _ _ _ _ m r)
+
+-- in the rows that a job has, the coalitions of n names are those of the job
+pub marked-job : (n g : ℕ) (f : ℕ → Bool) (x : Row) → g < 16 → RowAt (mark n f) g x → RowAt (mark (jobOf n) f) g x
+unfolding mark
+marked-job n g f x h r = row-cong g (mark n f) (mark (jobOf n) f) x (λ c _ high. ap (λ (b : Bool). b && f c) (few-coalitions n c (omega arith))) r

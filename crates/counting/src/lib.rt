@@ -1,43 +1,62 @@
 // Which grants count under a label (document 01, "Grants that count").
+use words::Row;
 ghost use mathlib.Core.Path.{_≡_};
-ghost use mathlib.Core.Bool.{Bool, not, _&&_};
-ghost use Prim.Native.Nat.{ℕ, _*_};
-ghost use Rattle.model.specs.Sides.{integrity};
-ghost use Rattle.model.specs.Coalitions.{packed};
-ghost use Rattle.model.specs.Terms.{Term, held};
-ghost use Rattle.model.specs.Grants.{Grant, under, voice, countsUnder};
+ghost use mathlib.Core.Bool.{true};
+ghost use Prim.Native.Nat.{_<_};
+ghost use Rattle.model.specs.Coalitions.{member, mark};
+ghost use Rattle.model.specs.Terms.{held};
+ghost use Rattle.model.specs.Grants.{marksOf};
 ghost use Rattle.words.specs.AnyBytes.{termIn};
-ghost use Rattle.words.specs.Evaluation.{jobOf};
-ghost use Rattle.counting.specs.Counted.{countedIn, GrantGiven};
+ghost use Rattle.words.specs.FourWords.{RowAt};
+ghost use Rattle.counting.specs.Counted.{grantIn, barsCounting, countsAt, countedIn, nothingKnown, judgedAt};
 
-// Those of a word that don't hold the voice of q. Where the word is 0 there is no need of q.
-fn unspoken(q: &[u8], w: u64, change: u64) -> u64
-    ensures { λ r. ⌜ ((f : ℕ → Bool) → change ≡ packed f (64 * w) 64 → r ≡ packed (λ c. f c && not (voice (held (termIn (now (q .entry)))) integrity c)) (64 * w) 64) ⌝ }
+// Those of row g that bar grant k from counting under the label: they see the label and not the grant's, or change the grant's and not the label, or
+// change it and don't hold the voice of q. Where none changes the grant's label there is no need of q.
+fn barring(ledger: &[u8], k: usize, label: &[u8], g: u64) -> Row
+    requires { ⌜ k < 64 ⌝ }
+    ensures { λ r. ⌜ RowAt (barsCounting (held (termIn (now (label .entry)))) (marksOf (grantIn (now (ledger .entry)) k))) g r ⌝ }
 {
-    if change == 0 {
-        return 0;
+    let asked = words::hold(label, 0, g);
+    let under = asked.rows;
+    let said = words::hold(ledger, ledgers::label_place(k), g);
+    let own = said.rows;
+    let unseen = words::without(under.see, own.see);
+    let unchanged = words::without(own.change, under.change);
+    let hidden = words::either(unseen, unchanged);
+    if words::empty(own.change) {
+        return hidden;
     }
-    let held = words::words_of(q, w);
-    change & !(held.see & held.change)
+    let held = words::hold(ledger, ledgers::q_place(k), g);
+    let q = held.rows;
+    let voice = words::both(q.see, q.change);
+    words::either(hidden, words::without(own.change, voice))
 }
 
-// The grant of what q may do, labelled d, counts under the label whose words these are: it is visible and spoken.
-fn grant_counts(see: &[u64; 64], change: &[u64; 64], n: u64, q: &[u8], d: &[u8]) -> bool
-    ensures { λ r. ⌜ ((L : Term) (g : Grant) → GrantGiven n (now (see .entry)) (now (change .entry)) (now (q .entry)) (now (d .entry)) L g → r ≡ countsUnder (under (jobOf n) L) g) ⌝ }
+// And those that are coalitions of n names. The mask is needed only where there are any.
+fn barring_of(ledger: &[u8], n: u64, k: usize, label: &[u8], g: u64) -> Row
+    requires { ⌜ k < 64 ⌝ }
+    ensures { λ r. ⌜ RowAt (mark n (barsCounting (held (termIn (now (label .entry)))) (marksOf (grantIn (now (ledger .entry)) k)))) g r ⌝ }
 {
-    let words = words::word_count(n);
-    let mut w: u64 = 0;
-    while w < words {
-        let at = w as usize;
-        let label = words::words_of(d, w);
-        let unseen = see[at] & !label.see;
-        let unchanged = label.change & !change[at];
-        let unspoken = unspoken(q, w, label.change);
-        let mask = words::low_mask(n, w);
-        if mask & (unseen | unchanged | unspoken) != 0 {
+    let bars = barring(ledger, k, label, g);
+    if words::empty(bars) {
+        return bars;
+    }
+    words::both(words::low_row(n, g), bars)
+}
+
+// Grant k counts under the label: it is visible and spoken.
+pub fn counts(ledger: &[u8], n: u64, k: usize, label: &[u8]) -> bool
+    requires { ⌜ k < 64 ⌝ }
+    ensures { λ r. ⌜ r ≡ countsAt (now (ledger .entry)) n (now (label .entry)) k ⌝ }
+{
+    let rows = words::row_count(n);
+    let mut g: u64 = 0;
+    while g < rows {
+        let clear = words::empty(barring_of(ledger, n, k, label, g));
+        if !clear {
             return false;
         }
-        w += 1;
+        g += 1;
     }
     true
 }
@@ -49,17 +68,58 @@ pub fn counted(ledger: &[u8], n: u64, grants: usize, label: &[u8]) -> u64
     if 64 < grants {
         return 0;
     }
-    let mut see = [0u64; 64];
-    let mut change = [0u64; 64];
-    words::evaluate(label, n, &mut see, &mut change);
     let mut counted: u64 = 0;
     let mut k = grants;
     while 0 < k {
         k -= 1;
-        let q = ledgers::grant_q(ledger, k);
-        let d = ledgers::grant_label(ledger, k);
-        let counts = grant_counts(&see, &change, n, q, d);
+        let counts = counts(ledger, n, k, label);
         counted = (counted << 1) | (counts as u64);
     }
     counted
+}
+
+// What is known of the grants: bit k of `unjudged` is set until grant k is judged, and bit k of `possible` until it is known not to count.
+pub struct Known {
+    pub unjudged: u64,
+    pub possible: u64,
+}
+
+// Nothing is known.
+pub fn unknown() -> Known
+    ensures { λ r. ⌜ r ≡ nothingKnown ⌝ }
+{
+    Known {
+        unjudged: 0xFFFF_FFFF_FFFF_FFFF,
+        possible: 0xFFFF_FFFF_FFFF_FFFF,
+    }
+}
+
+// Grant k may count.
+pub fn may_count(known: Known, k: usize) -> bool
+    requires { ⌜ k < 64 ⌝ }
+    ensures { λ r. ⌜ r ≡ member k (known .possible) ⌝ }
+{
+    (known.possible >> k) % 2 == 1
+}
+
+// What is known once grant k, which may count, is judged. It is judged once.
+pub fn judge(ledger: &[u8], n: u64, k: usize, label: &[u8], known: Known) -> Known
+    requires { ⌜ (k < 64) × (member k (known .possible) ≡ true) ⌝ }
+    ensures { λ r. ⌜ r ≡ judgedAt (countsAt (now (ledger .entry)) n (now (label .entry)) k) k known ⌝ }
+{
+    if (known.unjudged >> k) % 2 == 0 {
+        return known;
+    }
+    let bit: u64 = 1 << k;
+    let unjudged = known.unjudged - bit;
+    if counts(ledger, n, k, label) {
+        return Known {
+            unjudged,
+            possible: known.possible,
+        };
+    }
+    Known {
+        unjudged,
+        possible: known.possible - bit,
+    }
 }

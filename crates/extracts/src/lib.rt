@@ -1,5 +1,6 @@
 // The extract call (document 01, "Extract").
 use ledgers::LedgerReading;
+use words::Row;
 ghost use mathlib.Core.Path.{_≡_};
 ghost use Prim.Native.Nat.{_+_, _*_, _≤_, _<_};
 ghost use lib.ListN.{length};
@@ -21,6 +22,15 @@ fn put_word(half: &mut [u8; 512], w: usize, word: u64)
     }
 }
 
+// Bytes 32 × g to 32 × g + 31 of a half become those of a row.
+fn put_row(half: &mut [u8; 512], g: u64, row: Row) {
+    let w = 4 * g as usize;
+    put_word(half, w, row.a);
+    put_word(half, w + 1, row.b);
+    put_word(half, w + 2, row.c);
+    put_word(half, w + 3, row.d);
+}
+
 // Marks in both halves, which are all 00 before, the coalitions that keep each grant whose bit is set.
 fn mark_sound(
     ledger: &[u8],
@@ -33,14 +43,13 @@ fn mark_sound(
     requires { ⌜ (now see ≡ blank 512) × (now change ≡ blank 512) ⌝ }
     ensures { λ _. ⌜ Halves n (soundIn (now (ledger .entry)) grants chosen) (now (see .exit)) (now (change .exit)) ⌝ }
 {
-    let words = words::word_count(n);
-    let mut w: u64 = 0;
-    while w < words {
-        let sound = soundness::sound_word(ledger, n, grants, chosen, w);
-        let at = w as usize;
-        put_word(see, at, sound.see);
-        put_word(change, at, sound.change);
-        w += 1;
+    let rows = words::row_count(n);
+    let mut g: u64 = 0;
+    while g < rows {
+        let sound = soundness::sound_row(ledger, n, grants, chosen, g);
+        put_row(see, g, sound.see);
+        put_row(change, g, sound.change);
+        g += 1;
     }
 }
 

@@ -9,6 +9,7 @@ ghost use Rattle.model.specs.Terms.{readTerm};
 ghost use Rattle.model.specs.Ledgers.{weighted, checked, header, grantBlocks, allChecked, headerForm, grantForm, grantBlock, pBytes, qBytes, labelBytes, readGrant, readGrants, readLedger, readBook};
 ghost use Rattle.terms.specs.Readings.{termReading};
 ghost use Rattle.ledgers.specs.Forms.{termForm, Summed};
+ghost use Rattle.ledgers.specs.Places.{pPlace, qPlace, labelPlace};
 ghost use Rattle.ledgers.specs.Readings.{grantReading, grantRefusal, ledgerReading, bookReading, ledgerRefusal};
 
 // The sum of a row's bytes, and the sum of (i + 1) × byte i.
@@ -297,4 +298,26 @@ pub fn grant_label(ledger: &[u8], k: usize) -> &[u8]
     ensures { λ r. ⌜ now r ≡ labelBytes (grantBlock (now (ledger .entry)) k) ⌝ }
 {
     fields::term_part(grant_block(ledger, k), 3, 144)
+}
+
+// Where the terms of grant k begin in a ledger, which has 64 grants at most.
+pub fn p_place(k: usize) -> usize
+    requires { ⌜ k < 64 ⌝ }
+    ensures { λ r. ⌜ r ≡ pPlace k ⌝ }
+{
+    512 * k + 528
+}
+
+pub fn q_place(k: usize) -> usize
+    requires { ⌜ k < 64 ⌝ }
+    ensures { λ r. ⌜ r ≡ qPlace k ⌝ }
+{
+    512 * k + 592
+}
+
+pub fn label_place(k: usize) -> usize
+    requires { ⌜ k < 64 ⌝ }
+    ensures { λ r. ⌜ r ≡ labelPlace k ⌝ }
+{
+    512 * k + 656
 }

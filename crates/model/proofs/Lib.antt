@@ -15,7 +15,6 @@ pub mod Without
 pub mod Blocks
 pub mod Stands
 pub mod Steps
-pub mod Bars
 pub mod Prefixes
 pub mod Monotone
 pub mod Listed

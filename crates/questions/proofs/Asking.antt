@@ -1,5 +1,5 @@
 -- A question on bytes: which refusal it gets, and the answer where nothing is refused. Assumes nothing.
-use mathlib.Core.Path.{_≡_}
+use mathlib.Core.Path.{_≡_, refl}
 use mathlib.Core.List.{List}
 use Prim.Native.Nat.{ℕ, _+_}
 use Rattle.model.specs.Readings.{accepted, refused}
@@ -26,12 +26,12 @@ use Rattle.questions.specs.Searching.{verdictOf, verdictAnswer, judgeOf}
 use Rattle.questions.proofs.Refuting.{judged-under}
 
 -- what is judged on bytes that are accepted is what the question answers
-pub judged-asked : (relation : Relation) (ledger p q label : List ℕ) (n grants counted : ℕ) (l : Ledger) (tp tq L : Term) → LedgerOf ledger n grants l
-    → readTerm n p ≡ accepted tp → readTerm n q ≡ accepted tq → readTerm n label ≡ accepted L → counted ≡ countedIn ledger n grants label
-    → answerTo (judgeOf relation (jobOf n) (soundIn ledger grants counted) (termIn p) (termIn q)) ≡ relationOf relation l (under n L) tp tq
-judged-asked relation ledger p q label n grants counted l tp tq L of a b c e =
+pub judged-asked : (relation : Relation) (ledger p q label : List ℕ) (n grants : ℕ) (l : Ledger) (tp tq L : Term) → LedgerOf ledger n grants l
+    → readTerm n p ≡ accepted tp → readTerm n q ≡ accepted tq → readTerm n label ≡ accepted L
+    → answerTo (judgeOf relation (jobOf n) (soundIn ledger grants (countedIn ledger n grants label)) (termIn p) (termIn q)) ≡ relationOf relation l (under n L) tp tq
+judged-asked relation ledger p q label n grants l tp tq L of a b c =
     rw (job-is n (names-few ledger n grants l of), term-in n p tp a, term-in n q tq b)
-    (judged-under relation n l (under n L) tp tq _ (of .names) (sound-counted ledger label n grants counted l L of c e))
+    (judged-under relation n l (under n L) tp tq _ (of .names) (sound-counted ledger label n grants (countedIn ledger n grants label) l L of c refl))
 
 -- a verdict's answer is what the verdict stands for
 pub verdict-answers : (v : Verdict) (r : Answered) → r ≡ verdictAnswer v → answerOf r ≡ answerTo (verdictOf v)

@@ -1,49 +1,45 @@
--- Words of the coalitions that refute if they are sound, and what is judged where the bytes are accepted. Assumes nothing.
+-- Rows of the coalitions that refute if they are sound, and what is judged where the bytes are accepted. Assumes nothing.
 use mathlib.Core.Path.{_≡_, refl, ap, _∙_}
 use mathlib.Core.Bool.{Bool, true, false, not, _&&_}
 use mathlib.Core.Logic.{_↔_}
-use Prim.Native.Nat.{ℕ, _-_, _*_, _^_, _<_}
+use Prim.Native.Nat.{ℕ, _^_, _<_}
 use lib.Bits.{bitAnd}
 use lib.Dec.{ltb}
 use Rattle.model.specs.Sides.{Side, confidentiality, integrity}
-use Rattle.model.specs.Coalitions.{Marks, mark, packed}
+use Rattle.model.specs.Coalitions.{Marks, mark}
 use Rattle.model.specs.Terms.{Term, held}
 use Rattle.model.specs.Grants.{Under, actsStatically}
 use Rattle.model.specs.Ledgers.{Ledger}
 use Rattle.model.specs.Questions.{refutes, holds, judge, answerTo, across, soundUnder, actsForUnder, flowsToUnder}
-use Rattle.model.proofs.Bars.{lacks}
 use Rattle.model.proofs.Judge.{judge-yes, judge-cong}
 use Rattle.model.proofs.Sound.{static-says}
-use Rattle.words.specs.Evaluation.{coalitionWord, jobOf, WordsAt}
-use Rattle.words.proofs.Packing.{packed-and, packed-lacks}
+use Rattle.words.specs.declared.Row.{Row}
+use Rattle.words.specs.declared.Rows.{Rows}
+use Rattle.words.specs.FourWords.{RowAt, RowsAt, eachWord, lacks, lacksWord}
+use Rattle.words.specs.Evaluation.{jobOf}
+use Rattle.words.proofs.FourWords.{row-both, row-lacks, rows-of}
 use Rattle.words.proofs.Names.{few-coalitions}
 use Rattle.questions.specs.declared.Relation.{Relation}
 use Rattle.questions.specs.declared.Relation.the-variants.{ActsFor, FlowsTo}
 use Rattle.questions.specs.Answers.{relationOf}
 use Rattle.questions.specs.Searching.{fromOf, toOf, judgeOf, opposedOf, refutersOf}
 
--- of the coalitions of n names, those of f and not of g
-opposed-word : (n : ℕ) (f g : ℕ → Bool) (w mask a b : ℕ) → mask ≡ coalitionWord n w → a ≡ packed f (64 * w) 64 → b ≡ packed g (64 * w) 64
-    → bitAnd mask (bitAnd a (0xFFFF_FFFF_FFFF_FFFF - b)) ≡ packed (λ c. ltb c (2 ^ n) && (f c && not (g c))) (64 * w) 64
-opposed-word n f g w mask a b m e h = rw (m, e, h) (rw (packed-lacks f g (64 * w)) (packed-and (λ c. ltb c (2 ^ n)) (lacks f g) (64 * w) 64))
+-- the rows of those that refute if they are sound, from the rows of p and q
+module _ (n : ℕ) (p q : Term) (g : ℕ) (mask : Row) (from to : Rows) (m : RowAt (λ c. ltb c (2 ^ n)) g mask) (a : RowsAt (held p) g from) (b : RowsAt (held q) g to) where
+  -- of the coalitions of n names, those of the first and not of the second
+  opposed-row : (f h : ℕ → Bool) (x y r : Row) → RowAt f g x → RowAt h g y → r ≡ eachWord bitAnd mask (eachWord lacksWord x y) → RowAt (λ c. ltb c (2 ^ n) && lacks f h c) g r
+  opposed-row f h x y r c d e = rw e (row-both g _ _ _ _ m (row-lacks g f h x y c d))
 
--- the words of those that refute if they are sound, from the words of p and q
-module _ (n : ℕ) (p q : Term) (w mask ps pc qs qc : ℕ) (m : mask ≡ coalitionWord n w) (a : WordsAt (held p) w ps pc) (b : WordsAt (held q) w qs qc) where
-  pub acts-words : WordsAt (opposedOf ActsFor n p q) w (bitAnd mask (bitAnd ps (0xFFFF_FFFF_FFFF_FFFF - qs))) (bitAnd mask (bitAnd pc (0xFFFF_FFFF_FFFF_FFFF - qc)))
-  acts-words = record {
-    see-word = opposed-word n (held p confidentiality) (held q confidentiality) w mask ps qs m (a .see-word) (b .see-word);
-    change-word = opposed-word n (held p integrity) (held q integrity) w mask pc qc m (a .change-word) (b .change-word);
-  }
+  module _ (see change : Row) (e : change ≡ eachWord bitAnd mask (eachWord lacksWord (from .change) (to .change))) where
+    pub acts-rows : see ≡ eachWord bitAnd mask (eachWord lacksWord (from .see) (to .see)) → RowsAt (opposedOf ActsFor n p q) g (record { see = see; change = change })
+    acts-rows d = rows-of g (opposedOf ActsFor n p q) see change (opposed-row _ _ _ _ see (a .row confidentiality) (b .row confidentiality) d) (opposed-row _ _ _ _ change (a .row integrity) (b .row integrity) e)
 
-  -- on the see side the other way round
-  pub flows-words : WordsAt (opposedOf FlowsTo n p q) w (bitAnd mask (bitAnd qs (0xFFFF_FFFF_FFFF_FFFF - ps))) (bitAnd mask (bitAnd pc (0xFFFF_FFFF_FFFF_FFFF - qc)))
-  unfolding across
-  flows-words = record {
-    see-word = opposed-word n (held q confidentiality) (held p confidentiality) w mask qs ps m (b .see-word) (a .see-word);
-    change-word = acts-words .change-word;
-  }
+    -- on the see side the other way round
+    pub flows-rows : see ≡ eachWord bitAnd mask (eachWord lacksWord (to .see) (from .see)) → RowsAt (opposedOf FlowsTo n p q) g (record { see = see; change = change })
+    unfolding across
+    flows-rows d = rows-of g (opposedOf FlowsTo n p q) see change (opposed-row _ _ _ _ see (b .row confidentiality) (a .row confidentiality) d) (opposed-row _ _ _ _ change (a .row integrity) (b .row integrity) e)
 
--- in the words that a job has, those that are opposed and sound refute
+-- in the rows that a job has, those that are opposed and sound refute
 pub refuters-are : (relation : Relation) (n : ℕ) (S : Marks) (p q : Term) (s : Side) (c : ℕ) → c < 4096 → (opposedOf relation n p q s c && S s c) ≡ refutersOf relation n S p q s c
 unfolding mark refutes
 refuters-are relation n S p q s c h = rw (few-coalitions n c h) (turn (ltb c (2 ^ jobOf n)) (fromOf relation p q s c && not (toOf relation p q s c)) (S s c))

@@ -1,7 +1,7 @@
--- The search for the first coalition that refutes, word by word (document 01: "the see side first, then the lowest number that refutes").
+-- The search for the first coalition that refutes, row by row (document 01: "the see side first, then the lowest number that refutes").
 -- Assumes nothing: these are definitions.
 use mathlib.Core.Path.{_≡_}
-use mathlib.Core.Bool.{false, not, _&&_}
+use mathlib.Core.Bool.{Bool, false, not, _&&_}
 use Prim.Native.Nat.{ℕ, _+_, _*_, _%_, _^_}
 use lib.Dec.{ltb}
 use Rattle.model.specs.Questions as model
@@ -9,12 +9,16 @@ use Rattle.model.specs.Sides.{confidentiality, integrity}
 use Rattle.model.specs.Coalitions.{member, Marks, Lowest, nowhere, at, lowest, mark}
 use Rattle.model.specs.Terms.{Term, held}
 use Rattle.model.specs.Questions.{refutes, ground, judge, across}
-use Rattle.words.specs.Evaluation.{jobOf, WordsAt}
-use Rattle.words.specs.declared.Words.{Words}
+use Rattle.words.specs.declared.Row.{Row}
+use Rattle.words.specs.declared.Rows.{Rows}
+use Rattle.words.specs.FourWords.{RowsAt, sameRow}
+use Rattle.words.specs.Evaluation.{jobOf}
+use Rattle.counting.specs.Counted.{KnownOf}
 use Rattle.questions.specs.declared.Answer.{Answer}
 use Rattle.questions.specs.declared.Answer.the-variants.{Yes, No}
 use Rattle.questions.specs.declared.Relation.{Relation}
 use Rattle.questions.specs.declared.Relation.the-variants.{ActsFor, FlowsTo}
+use Rattle.questions.specs.declared.Sifted.{Sifted}
 use Rattle.questions.specs.declared.Verdict.{Verdict}
 use Rattle.questions.specs.declared.Verdict.the-variants.{Holds, Refuted}
 use Rattle.questions.specs.Answers.{sideOf}
@@ -54,10 +58,23 @@ refutersOf relation n S p q s = mark (jobOf n) (refutes S (fromOf relation p q) 
 abbrev pub lowestBit : ℕ → Lowest
 lowestBit x = lowest (λ j. member j x) 64
 
--- the coalition of a bit of word w; there are 64 words at most
+-- the first, or else the second
+abbrev pub orElse : Lowest → Lowest → Lowest
+orElse (at j) b = at j
+orElse nowhere b = b
+
+-- a number that is counted from i on
+abbrev pub raised : ℕ → Lowest → Lowest
+raised i nowhere = nowhere
+raised i (at j) = at (i + j)
+
+-- the number of the lowest coalition of a row, counted from the row's first
+abbrev pub lowestIn : Row → Lowest
+lowestIn x = orElse (lowestBit (x .a)) (orElse (raised 64 (lowestBit (x .b))) (orElse (raised 128 (lowestBit (x .c))) (raised 192 (lowestBit (x .d)))))
+
+-- the coalition with such a number in row g; there are 16 rows at most
 abbrev pub placed : ℕ → Lowest → Lowest
-placed w nowhere = nowhere
-placed w (at j) = at (64 * (w % 64) + j)
+placed g = raised (256 * (g % 16))
 
 -- the see side alone
 abbrev pub seeOnly : Marks → Marks
@@ -69,26 +86,31 @@ abbrev pub stillOf : Verdict → Marks → Marks
 stillOf Holds f = f
 stillOf (Refuted s c) f = seeOnly f
 
--- and of two words those that can
-abbrev pub stillWords : Verdict → Words → Words
-stillWords Holds both = both
-stillWords (Refuted s c) both = record { see = both .see; change = 0 }
+-- and of two rows those that can
+abbrev pub stillRows : Verdict → Rows → Rows
+stillRows Holds both = both
+stillRows (Refuted s c) both = record { see = both .see; change = sameRow 0 }
 
--- what was found, or the first in word w, these being the lowest bits of its refuters: one on the see side comes before what was found
+-- what was found, or the first in row g, these being its lowest refuters: one on the see side comes before what was found
 abbrev pub laterOf : Lowest → Lowest → model.Verdict → model.Verdict
 laterOf (at c) change found = model.refuted confidentiality c
 laterOf nowhere (at c) found = model.refuted integrity c
 laterOf nowhere nowhere found = found
 
 abbrev pub furtherOf : Verdict → ℕ → Lowest → Lowest → model.Verdict
-furtherOf found w see change = laterOf (placed w see) (placed w change) (verdictOf found)
+furtherOf found g see change = laterOf (placed g see) (placed g change) (verdictOf found)
 
 -- the first of the refuters R below k
 abbrev pub foundTo : Marks → ℕ → model.Verdict
 foundTo R k = ground (lowest (R confidentiality) k) (lowest (R integrity) k)
 
--- Before word w the first of the refuters R is the verdict, and none is on the see side; of word w, these are the refuters that can still decide.
-pub record Deciding (R : Marks) (found : Verdict) (w see change : ℕ) : Type 0 where
-  pub clear : lowest (R confidentiality) (64 * w) ≡ nowhere
-  pub so-far : verdictOf found ≡ foundTo R (64 * w)
-  pub words : WordsAt (stillOf found R) w see change
+-- Before row g the first of the refuters R is the verdict, and none is on the see side; of row g, these are the refuters that can still decide.
+pub record Deciding (R : Marks) (found : Verdict) (g : ℕ) (left : Rows) : Type 0 where
+  pub clear : lowest (R confidentiality) (256 * g) ≡ nowhere
+  pub so-far : verdictOf found ≡ foundTo R (256 * g)
+  pub rows : RowsAt (stillOf found R) g left
+
+-- What is left of row g is a row of f, and what is known of the grants is so, `counts` being what counts.
+pub record SiftedTo (counts : ℕ → Bool) (f : Marks) (g : ℕ) (sifted : Sifted) : Type 0 where
+  pub rows : RowsAt f g (sifted .left)
+  pub so : KnownOf counts (sifted .known)

@@ -24,10 +24,8 @@ fn less_word(marks: &[u64], i: u64, w: u64) -> u64
 {
     let place = w as usize;
     if i < 6 {
-        let name = [i as u8];
-        let having = words::words_of(&name, w);
         let up: u64 = 1 << i;
-        return (marks[place] << up) & having.see;
+        return (marks[place] << up) & words::name_word(i as u8, w);
     }
     if (w >> (i - 6)) % 2 == 1 {
         let down: usize = 1 << (i - 6);

@@ -16,10 +16,9 @@ use Rattle.model.specs.Questions.{soundUnder}
 use Rattle.model.specs.Meanings.{grantBits}
 use Rattle.model.proofs.Prefixes.{ofGrant-getD, bits-say, sound-none, sound-more}
 use Rattle.model.proofs.Stands.{ledger-stands}
-use Rattle.words.specs.AnyBytes.{grantIn}
-use Rattle.words.proofs.AnyBytes.{noGrant, grant-in}
 use Rattle.ledgers.specs.Readings.{LedgerOf}
-use Rattle.counting.specs.Counted.{countedIn}
+use Rattle.counting.specs.Counted.{grantIn, countedIn}
+use Rattle.counting.proofs.Standing.{noGrant, grant-in}
 use Rattle.counting.proofs.Accepted.{counted-in}
 use Rattle.soundness.specs.Keeping.{soundIn}
 

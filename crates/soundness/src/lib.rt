@@ -1,42 +1,45 @@
 // Which coalitions keep the grants whose bits are set: the sound ones, where these are the grants that count (document 01, "Grants that count").
-use words::Words;
+use words::Rows;
 ghost use mathlib.Core.Bool.{_&&_};
+ghost use Prim.Native.Nat.{_<_};
 ghost use Rattle.model.specs.Coalitions.{Marks, mark};
-ghost use Rattle.model.specs.Grants.{marksOf, keeps};
-ghost use Rattle.words.specs.AnyBytes.{grantIn};
-ghost use Rattle.words.specs.Evaluation.{WordsAt};
-ghost use Rattle.soundness.specs.Keeping.{soundIn};
+ghost use Rattle.model.specs.Grants.{marksOf};
+ghost use Rattle.words.specs.FourWords.{RowsAt};
+ghost use Rattle.counting.specs.Counted.{grantIn};
+ghost use Rattle.soundness.specs.Keeping.{breaks, soundIn};
 
-// Those of two words that keep grant k: they hold its q where they hold its p. Where none holds its p there is no need of q.
-fn keep(ledger: &[u8], k: usize, w: u64, of: Words) -> Words
-    ensures { λ r. ⌜ ((f : Marks) → WordsAt f w (of .see) (of .change) → WordsAt (λ s c. f s c && keeps (marksOf (grantIn (now (ledger .entry)) k)) s c) w (r .see) (r .change)) ⌝ }
+// Those of two rows that break grant k: they hold its p and not its q. Where none holds its p there is no need of q.
+pub fn broken(ledger: &[u8], k: usize, g: u64, of: Rows) -> Rows
+    requires { ⌜ k < 64 ⌝ }
+    ensures { λ r. ⌜ ((f : Marks) → RowsAt f g of → RowsAt (λ s c. f s c && breaks (marksOf (grantIn (now (ledger .entry)) k)) s c) g r) ⌝ }
 {
-    let p = words::words_of(ledgers::grant_p(ledger, k), w);
-    let see = of.see & p.see;
-    let change = of.change & p.change;
-    if see | change == 0 {
-        return of;
+    let from = words::hold(ledger, ledgers::p_place(k), g);
+    let p = from.rows;
+    let holding = Rows {
+        see: words::both(of.see, p.see),
+        change: words::both(of.change, p.change),
+    };
+    if words::none(holding) {
+        return holding;
     }
-    let q = words::words_of(ledgers::grant_q(ledger, k), w);
-    Words {
-        see: of.see & (q.see | !p.see),
-        change: of.change & (q.change | !p.change),
-    }
+    let to = words::hold(ledger, ledgers::q_place(k), g);
+    let q = to.rows;
+    words::rest(holding, q)
 }
 
-// Those of two words that keep each grant whose bit is set. It ends where none is left.
-pub fn keep_all(ledger: &[u8], grants: usize, chosen: u64, w: u64, of: Words) -> Words
-    ensures { λ r. ⌜ ((f : Marks) → WordsAt f w (of .see) (of .change) → WordsAt (λ s c. f s c && soundIn (now (ledger .entry)) grants chosen s c) w (r .see) (r .change)) ⌝ }
+// Those of two rows that keep each grant whose bit is set. It ends where none is left.
+pub fn keep_all(ledger: &[u8], grants: usize, chosen: u64, g: u64, of: Rows) -> Rows
+    ensures { λ r. ⌜ ((f : Marks) → RowsAt f g of → RowsAt (λ s c. f s c && soundIn (now (ledger .entry)) grants chosen s c) g r) ⌝ }
 {
     let mut kept = of;
     let mut left = chosen;
     let mut k: usize = 0;
     while k < grants {
         if left % 2 == 1 {
-            if kept.see | kept.change == 0 {
+            if words::none(kept) {
                 return kept;
             }
-            kept = keep(ledger, k, w, kept);
+            kept = words::rest(kept, broken(ledger, k, g, kept));
         }
         left /= 2;
         k += 1;
@@ -44,14 +47,14 @@ pub fn keep_all(ledger: &[u8], grants: usize, chosen: u64, w: u64, of: Words) ->
     kept
 }
 
-// Word w of the coalitions of n names that keep each grant whose bit is set: the sound ones, where these are the grants that count.
-pub fn sound_word(ledger: &[u8], n: u64, grants: usize, chosen: u64, w: u64) -> Words
-    ensures { λ r. ⌜ WordsAt (λ s. mark n (soundIn (now (ledger .entry)) grants chosen s)) w (r .see) (r .change) ⌝ }
+// Row g of the coalitions of n names that keep each grant whose bit is set: the sound ones, where these are the grants that count.
+pub fn sound_row(ledger: &[u8], n: u64, grants: usize, chosen: u64, g: u64) -> Rows
+    ensures { λ r. ⌜ RowsAt (λ s. mark n (soundIn (now (ledger .entry)) grants chosen s)) g r ⌝ }
 {
-    let mask = words::low_mask(n, w);
-    let all = Words {
+    let mask = words::low_row(n, g);
+    let all = Rows {
         see: mask,
         change: mask,
     };
-    keep_all(ledger, grants, chosen, w, all)
+    keep_all(ledger, grants, chosen, g, all)
 }

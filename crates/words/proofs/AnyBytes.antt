@@ -7,11 +7,8 @@ use lib.ListN.{length, drop, getD, length-append, length-drop}
 use lib.Seq.{drop-append-seam}
 use Rattle.model.specs.Readings.{accepted}
 use Rattle.model.specs.Terms.{Term, name, top, bottom, conj, disj, project, projectCode, Code, whole, one, two, none, codeOf, codes, NamesBelow, readTerm}
-use Rattle.model.specs.Grants.{Grant}
-use Rattle.model.specs.Ledgers.{Ledger, readLedger}
 use Rattle.model.proofs.Reading.{code-name, code-project, accepted-codes}
-use Rattle.model.proofs.Stands.{ledger-stands}
-use Rattle.words.specs.AnyBytes.{Taken, takeParts, takeWithin, taken, termIn, grantIn}
+use Rattle.words.specs.AnyBytes.{Taken, takeParts, takeWithin, taken, termIn}
 
 -- two takers of parts that agree on lists that are no longer than cs
 parts-same : (cs : List ℕ) (a b : List ℕ → Taken) → ((ds : List ℕ) → length ds ≤ length cs → a ds ≡ b ds) → (m : Code) → takeParts a m cs ≡ takeParts b m cs
@@ -69,13 +66,3 @@ term-codes n bytes t e below = ap (λ (cs : List ℕ). termIn cs) (e ∙ sym (ap
 -- So does a list that is accepted as a term.
 pub term-in : (n : ℕ) (bytes : List ℕ) (t : Term) → readTerm n bytes ≡ accepted t → termIn bytes ≡ t
 term-in n bytes t e = let h = accepted-codes n bytes t .0 e in term-codes n bytes t (h .0) (h .1)
-
--- what stands for a grant past the last
-abbrev pub noGrant : Grant
-noGrant = record { p = top; q = top; label = top }
-
--- Block k of an accepted ledger stands for grant k; `other` is any grant, for a k past the last.
-pub grant-in : (bytes : List ℕ) (l : Ledger) (k : ℕ) (other : Grant) → readLedger bytes ≡ accepted l → k < length (l .grants) → grantIn bytes k ≡ getD (l .grants) k other
-grant-in bytes l k other e below =
-    let g = ledger-stands bytes l e .grant k other below in
-    rw (term-in (l .names) _ _ (g .p .is), term-in (l .names) _ _ (g .q .is), term-in (l .names) _ _ (g .label .is))

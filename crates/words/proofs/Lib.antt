@@ -1,5 +1,6 @@
 -- What the proofs of several functions use, and what other crates cite.
 pub mod Packing
+pub mod FourWords
 pub mod Names
 pub mod AnyBytes
 pub mod Steps

@@ -4,8 +4,6 @@ use Prim.Native.Nat.{ℕ, zero, suc, _+_}
 use mathlib.Core.List.{List, [], _∷_}
 use lib.ListN.{length, drop}
 use Rattle.model.specs.Terms.{Term, top, Code, whole, one, two, none, codeOf}
-use Rattle.model.specs.Grants.{Grant}
-use Rattle.model.specs.Ledgers.{grantBlock, pBytes, qBytes, labelBytes}
 
 -- a term, and how many bytes it takes
 pub record Taken : Type 0 where
@@ -34,11 +32,3 @@ taken cs = takeWithin (length cs) cs
 -- the term that the bytes stand for
 abbrev pub termIn : List ℕ → Term
 termIn bytes = taken bytes .term
-
--- the grant that block k of any bytes stands for
-abbrev pub grantIn : List ℕ → ℕ → Grant
-grantIn ledger k = record {
-  p = termIn (pBytes (grantBlock ledger k));
-  q = termIn (qBytes (grantBlock ledger k));
-  label = termIn (labelBytes (grantBlock ledger k));
-}

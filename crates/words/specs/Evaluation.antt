@@ -1,14 +1,17 @@
--- Where terms are held (document 01, "Terms"), 64 coalitions in a word: bit j of word w is coalition 64 × w + j. Assumes nothing: these are definitions.
+-- Where terms are held (document 01, "Terms"), 64 coalitions in a word, four words in a row: bit j of word w is coalition 64 × w + j. Assumes nothing: these
+-- are definitions.
 use mathlib.Core.Path.{_≡_}
 use mathlib.Core.Bool.{Bool, true, false}
 use mathlib.Core.List.{List}
 use Prim.Native.Nat.{ℕ, _+_, _-_, _*_, _^_, _≤_, _<_, min}
 use lib.Dec.{ltb}
 use lib.ListN.{length, drop, getD}
-use Rattle.model.specs.Sides.{Side, confidentiality, integrity}
-use Rattle.model.specs.Coalitions.{Marks, mark, packed}
+use Rattle.model.specs.Sides.{Side}
+use Rattle.model.specs.Coalitions.{mark, packed}
 use Rattle.model.specs.Terms.{Term, held}
+use Rattle.words.specs.declared.Rows.{Rows}
 use Rattle.words.specs.AnyBytes.{taken, termIn}
+use Rattle.words.specs.FourWords.{RowsAt}
 
 -- word w of a term on a side
 abbrev pub heldWord : Term → Side → ℕ → ℕ
@@ -26,18 +29,17 @@ jobOf n = min n 12
 abbrev pub wordCount : ℕ → ℕ
 wordCount n = 2 ^ (jobOf n - 6)
 
--- f holds at no coalition of n names in the words before w
+-- and how many rows
+abbrev pub rowCount : ℕ → ℕ
+rowCount n = 2 ^ (jobOf n - 8)
+
+-- f holds at no coalition of n names in the rows before g
 abbrev pub ClearTo : ℕ → (ℕ → Bool) → ℕ → Type 0
-ClearTo n f w = (c : ℕ) → c < 64 * w → mark n f c ≡ false
+ClearTo n f g = (c : ℕ) → c < 256 * g → mark n f c ≡ false
 
--- Word w of a set of coalitions on each side.
-pub record WordsAt (f : Marks) (w see change : ℕ) : Type 0 where
-  pub see-word : see ≡ packed (f confidentiality) (64 * w) 64
-  pub change-word : change ≡ packed (f integrity) (64 * w) 64
-
--- What evaluating at a place of any bytes answers: word w of the term that the bytes from there on stand for, and the place after it.
-pub record Evaluated (bytes : List ℕ) (at w see change next : ℕ) : Type 0 where
-  pub words : WordsAt (held (termIn (drop at bytes))) w see change
+-- What evaluating at a place of any bytes answers: row g of the term that the bytes from there on stand for, and the place after it.
+pub record Evaluated (bytes : List ℕ) (at g : ℕ) (rows : Rows) (next : ℕ) : Type 0 where
+  pub held-there : RowsAt (held (termIn (drop at bytes))) g rows
   pub past : next ≡ at + taken (drop at bytes) .size
 
 -- the first k words of a list are those of the term on the side

@@ -1,18 +1,119 @@
-// Terms held at 64 coalitions at once (document 01, "Terms"): bit j of word w is coalition 64 * w + j.
+// Terms held at 256 coalitions at once (document 01, "Terms"): bit k of word j of row g is coalition 256 * g + 64 * j + k.
 ghost use mathlib.Core.Path.{_≡_};
-ghost use Prim.Native.Nat.{_*_, _<_};
+ghost use mathlib.Core.Bool.{cond, _&&_, _||_};
+ghost use Prim.Native.Nat.{_*_, _^_, _<_};
+ghost use lib.Bits.{bitAnd, bitOr};
+ghost use lib.Dec.{eqb, ltb};
+ghost use lib.ListN.{length, getD};
 ghost use Rattle.model.specs.Sides.{confidentiality, integrity};
 ghost use Rattle.model.specs.Coalitions.{member, packed};
 ghost use Rattle.words.specs.AnyBytes.{termIn};
-ghost use Rattle.words.specs.Evaluation.{coalitionWord, wordCount, Evaluated, EvaluatedTo, LowestBit};
+ghost use Rattle.words.specs.FourWords.{eachWord, eachRow, lacksWord, sameRow, sameRows, emptyRow, emptyRows, rowSet, RowAt};
+ghost use Rattle.words.specs.Evaluation.{coalitionWord, wordCount, rowCount, Evaluated, EvaluatedTo, LowestBit};
 
 // The word of the strongest party, held nowhere, and that of the weakest, held everywhere.
 const NONE: u64 = 0;
 
 const ALL: u64 = 0xFFFF_FFFF_FFFF_FFFF;
 
+// A row of a set of coalitions: its four words, lowest first.
+pub struct Row {
+    pub a: u64,
+    pub b: u64,
+    pub c: u64,
+    pub d: u64,
+}
+
+// A row on each side.
+pub struct Rows {
+    pub see: Row,
+    pub change: Row,
+}
+
+// Four times the same word.
+fn same(x: u64) -> Row
+    ensures { λ r. ⌜ r ≡ sameRow x ⌝ }
+{
+    Row {
+        a: x,
+        b: x,
+        c: x,
+        d: x,
+    }
+}
+
+// The same word all over both sides.
+fn alike(x: u64) -> Rows
+    ensures { λ r. ⌜ r ≡ sameRows x ⌝ }
+{
+    Rows {
+        see: same(x),
+        change: same(x),
+    }
+}
+
+// Those of both rows.
+pub fn both(x: Row, y: Row) -> Row
+    ensures { λ r. ⌜ r ≡ eachWord bitAnd x y ⌝ }
+{
+    Row {
+        a: x.a & y.a,
+        b: x.b & y.b,
+        c: x.c & y.c,
+        d: x.d & y.d,
+    }
+}
+
+// Those of either row.
+pub fn either(x: Row, y: Row) -> Row
+    ensures { λ r. ⌜ r ≡ eachWord bitOr x y ⌝ }
+{
+    Row {
+        a: x.a | y.a,
+        b: x.b | y.b,
+        c: x.c | y.c,
+        d: x.d | y.d,
+    }
+}
+
+// Those of the first row that are not in the second.
+pub fn without(x: Row, y: Row) -> Row
+    ensures { λ r. ⌜ r ≡ eachWord lacksWord x y ⌝ }
+{
+    Row {
+        a: x.a & !y.a,
+        b: x.b & !y.b,
+        c: x.c & !y.c,
+        d: x.d & !y.d,
+    }
+}
+
+// The row has no coalition.
+pub fn empty(x: Row) -> bool
+    ensures { λ r. ⌜ r ≡ emptyRow x ⌝ }
+{
+    x.a | x.b | x.c | x.d == 0
+}
+
+// Those of two rows, a side each, that are not among two others.
+pub fn rest(x: Rows, gone: Rows) -> Rows
+    ensures { λ r. ⌜ r ≡ eachRow lacksWord x gone ⌝ }
+{
+    Rows {
+        see: without(x.see, gone.see),
+        change: without(x.change, gone.change),
+    }
+}
+
+// The rows have no coalition on either side.
+pub fn none(x: Rows) -> bool
+    ensures { λ r. ⌜ r ≡ emptyRows x ⌝ }
+{
+    empty(either(x.see, x.change))
+}
+
 // The coalitions of word w that have name i as a member.
-fn name_word(i: u8, w: u64) -> u64
+pub fn name_word(i: u8, w: u64) -> u64
     requires { ⌜ i < 12 ⌝ }
     ensures { λ r. ⌜ r ≡ packed (member i) (64 * w) 64 ⌝ }
 {
@@ -27,100 +128,157 @@ fn name_word(i: u8, w: u64) -> u64
     }
 }
 
-// A word of a set of coalitions on each side.
-pub struct Words {
-    pub see: u64,
-    pub change: u64,
+// The coalitions of row g that have name i as a member. A name from 8 up has all of a row or none of it: the row as the name two below has the word.
+fn name_row(i: u8, g: u64) -> Row
+    requires { ⌜ i < 12 ⌝ }
+    ensures { λ r. ⌜ RowAt (member i) g r ⌝ }
+{
+    match i {
+        6 => Row {
+            a: NONE,
+            b: ALL,
+            c: NONE,
+            d: ALL,
+        },
+        7 => Row {
+            a: NONE,
+            b: NONE,
+            c: ALL,
+            d: ALL,
+        },
+        _ => {
+            if i < 6 {
+                same(name_word(i, g))
+            } else {
+                same(name_word(i - 2, g))
+            }
+        }
+    }
 }
 
-// A word of a term on both sides, and the place after the term's codes. The place stands between the words: side by side they
-// are written one by one and read back as a pair, which costs a quarter of the time.
+// A row of a term on both sides, and the place after the term's codes. The place stands first: after the words it sets the pairs apart in which the
+// processor reads and writes them.
 pub struct Held {
-    pub see: u64,
     pub next: usize,
-    pub change: u64,
+    pub rows: Rows,
 }
 
-// Word w of the term that the bytes from `at` on stand for. Bytes that are no term are for the term reader to refuse: here what is no code, or is
-// missing, is held nowhere.
-pub fn hold(codes: &[u8], at: usize, w: u64) -> Held
-    ensures { λ r. ⌜ Evaluated (now (codes .entry)) at w (r .see) (r .change) (r .next) ⌝ }
+// There is a name at the place.
+fn is_name(codes: &[u8], at: usize) -> bool
+    ensures { λ r. ⌜ r ≡ (ltb at (length (now (codes .entry))) && ltb (getD (now (codes .entry)) at 0) 12) ⌝ }
+{
+    if codes.len() <= at {
+        return false;
+    }
+    codes[at] < 12
+}
+
+// Row g of the name at the place.
+fn hold_name(codes: &[u8], at: usize, g: u64) -> Held
+    requires { ⌜ (at < length (now codes)) × (getD (now codes) at 0 < 12) ⌝ }
+    ensures { λ r. ⌜ Evaluated (now (codes .entry)) at g (r .rows) (r .next) ⌝ }
+{
+    let x = name_row(codes[at], g);
+    Held {
+        next: at + 1,
+        rows: Rows { see: x, change: x },
+    }
+}
+
+// Both and either, the codes that have two parts.
+fn joins(code: u8) -> bool
+    ensures { λ r. ⌜ r ≡ (eqb code 0x30 || eqb code 0x31) ⌝ }
+{
+    code == 0x30 || code == 0x31
+}
+
+fn join(code: u8, p: Rows, q: Rows) -> Rows
+    ensures { λ r. ⌜ r ≡ cond (eqb code 0x30) (eachRow bitAnd p q) (eachRow bitOr p q) ⌝ }
+{
+    if code == 0x30 {
+        return Rows {
+            see: both(p.see, q.see),
+            change: both(p.change, q.change),
+        };
+    }
+    Rows {
+        see: either(p.see, q.see),
+        change: either(p.change, q.change),
+    }
+}
+
+// Row g of the term that the bytes from `at` on stand for. A part that is a name is taken in place. Bytes that are no term are for the term reader
+// to refuse: here what is no code, or is missing, is held nowhere.
+pub fn hold(codes: &[u8], at: usize, g: u64) -> Held
+    ensures { λ r. ⌜ Evaluated (now (codes .entry)) at g (r .rows) (r .next) ⌝ }
 {
     if codes.len() <= at {
         return Held {
-            see: 0,
-            change: 0,
             next: at,
+            rows: alike(NONE),
         };
     }
     let code = codes[at];
-    let next = at + 1;
     if code < 12 {
-        let x = name_word(code, w);
+        return hold_name(codes, at, g);
+    }
+    let next = at + 1;
+    if joins(code) {
+        let p = if is_name(codes, next) {
+            hold_name(codes, next, g)
+        } else {
+            hold(codes, next, g)
+        };
+        let q = if is_name(codes, p.next) {
+            hold_name(codes, p.next, g)
+        } else {
+            hold(codes, p.next, g)
+        };
+        let first = p.rows;
+        let second = q.rows;
         return Held {
-            see: x,
-            change: x,
-            next: next,
+            next: q.next,
+            rows: join(code, first, second),
         };
     }
     match code {
         0x20 => Held {
-            see: NONE,
-            change: NONE,
             next: next,
+            rows: alike(NONE),
         },
         0x21 => Held {
-            see: ALL,
-            change: ALL,
             next: next,
+            rows: alike(ALL),
         },
-        0x30 => {
-            let p = hold(codes, next, w);
-            let q = hold(codes, p.next, w);
-            Held {
-                see: p.see & q.see,
-                change: p.change & q.change,
-                next: q.next,
-            }
-        }
-        0x31 => {
-            let p = hold(codes, next, w);
-            let q = hold(codes, p.next, w);
-            Held {
-                see: p.see | q.see,
-                change: p.change | q.change,
-                next: q.next,
-            }
-        }
         0x40 => {
-            let p = hold(codes, next, w);
+            let p = hold(codes, next, g);
+            let part = p.rows;
+            let see = part.see;
             Held {
-                see: p.see,
-                change: ALL,
                 next: p.next,
+                rows: Rows {
+                    see,
+                    change: same(ALL),
+                },
             }
         }
         0x41 => {
-            let p = hold(codes, next, w);
+            let p = hold(codes, next, g);
+            let part = p.rows;
+            let change = part.change;
             Held {
-                see: ALL,
-                change: p.change,
                 next: p.next,
+                rows: Rows {
+                    see: same(ALL),
+                    change,
+                },
             }
         }
         _ => Held {
-            see: 0,
-            change: 0,
             next: next,
+            rows: alike(NONE),
         },
     }
-}
-
-// Word w of a whole term.
-pub fn words_of(codes: &[u8], w: u64) -> Held
-    ensures { λ r. ⌜ Evaluated (now (codes .entry)) 0 w (r .see) (r .change) (r .next) ⌝ }
-{
-    hold(codes, 0, w)
 }
 
 // The coalitions of word w that n names have: those below 2^n.
@@ -142,6 +300,29 @@ pub fn low_mask(n: u64, w: u64) -> u64
     ALL
 }
 
+// The coalitions of row g that n names have. Fewer than eight names have one row, of which they fill two words at most.
+pub fn low_row(n: u64, g: u64) -> Row
+    ensures { λ r. ⌜ RowAt (λ c. ltb c (2 ^ n)) g r ⌝ }
+{
+    if n < 8 {
+        if g == 0 {
+            return Row {
+                a: low_mask(n, 0),
+                b: low_mask(n, 1),
+                c: NONE,
+                d: NONE,
+            };
+        }
+        return same(NONE);
+    }
+    if n < 72 {
+        if (g >> (n - 8)) != 0 {
+            return same(NONE);
+        }
+    }
+    same(ALL)
+}
+
 // How many words the coalitions of n names take.
 pub fn word_count(n: u64) -> u64
     ensures { λ r. ⌜ r ≡ wordCount n ⌝ }
@@ -155,19 +336,44 @@ pub fn word_count(n: u64) -> u64
     64
 }
 
-// All words of a term of n names on both sides, word w at place w: for what asks for them more than once.
-pub fn evaluate(codes: &[u8], n: u64, see: &mut [u64; 64], change: &mut [u64; 64])
-    ensures { λ _. ⌜ EvaluatedTo (termIn (now (codes .entry))) confidentiality (wordCount n) (now (see .entry)) (now (see .exit)) ⌝ }
-    ensures { λ _. ⌜ EvaluatedTo (termIn (now (codes .entry))) integrity (wordCount n) (now (change .entry)) (now (change .exit)) ⌝ }
+// How many rows they take.
+pub fn row_count(n: u64) -> u64
+    ensures { λ r. ⌜ r ≡ rowCount n ⌝ }
 {
-    let count = word_count(n);
-    let mut w: u64 = 0;
-    while w < count {
-        let held = words_of(codes, w);
-        let at = w as usize;
-        see[at] = held.see;
-        change[at] = held.change;
-        w += 1;
+    if n < 8 {
+        return 1;
+    }
+    if n < 12 {
+        return 1 << (n - 8);
+    }
+    16
+}
+
+// The words of row g become those of a row.
+fn put_row(words: &mut [u64; 64], g: u64, row: Row)
+    requires { ⌜ g < 16 ⌝ }
+    ensures { λ _. ⌜ now (words .exit) ≡ rowSet (now (words .entry)) g row ⌝ }
+{
+    let at = 4 * g as usize;
+    words[at] = row.a;
+    words[at + 1] = row.b;
+    words[at + 2] = row.c;
+    words[at + 3] = row.d;
+}
+
+// All rows of a term of n names on both sides, row g in the four words from place 4 * g on: for what asks for them more than once.
+pub fn evaluate(codes: &[u8], n: u64, see: &mut [u64; 64], change: &mut [u64; 64])
+    ensures { λ _. ⌜ EvaluatedTo (termIn (now (codes .entry))) confidentiality (4 * rowCount n) (now (see .entry)) (now (see .exit)) ⌝ }
+    ensures { λ _. ⌜ EvaluatedTo (termIn (now (codes .entry))) integrity (4 * rowCount n) (now (change .entry)) (now (change .exit)) ⌝ }
+{
+    let count = row_count(n);
+    let mut g: u64 = 0;
+    while g < count {
+        let held = hold(codes, 0, g);
+        let rows = held.rows;
+        put_row(see, g, rows.see);
+        put_row(change, g, rows.change);
+        g += 1;
     }
 }
 

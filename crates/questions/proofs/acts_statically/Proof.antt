@@ -27,6 +27,9 @@ not-both s c e = cc
 slice-aggregate-judge : tie.Need-slice-aggregate-judge
 slice-aggregate-judge c = search needs
 
+slice-aggregate-judge-2 : tie.Need-slice-aggregate-judge-2
+slice-aggregate-judge-2 c = search needs
+
 judge-requires : tie.Need-judge-requires
 judge-requires c κs = search needs
 
@@ -43,4 +46,4 @@ returns-2 : tie.Need-returns-2
 returns-2 c = sym (false-of _ (λ e. false≢true (not-both _ _ (sym (ap verdictOf (c .enum-told2 .given .1)) ∙ c .before .before .judge .ensures ∙ judged-static _ _ _ _ (all-sound _ _) .1 e))))
 
 pub acts-statically-spec : {M : Type 1} → statement M
-acts-statically-spec = tie.close (tie.spec slice-aggregate-judge judge-requires enum-told enum-told-2 returns returns-2)
+acts-statically-spec = tie.close (tie.spec slice-aggregate-judge slice-aggregate-judge-2 judge-requires enum-told enum-told-2 returns returns-2)

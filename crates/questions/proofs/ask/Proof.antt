@@ -4,6 +4,7 @@ use mathlib.Core.Path.{sym, ap, _∙_}
 use Rattle.model.specs.Questions.{answerTo}
 use Rattle.terms.proofs.Accepted.{AcceptedTerm, accepted-term, term-refused, refusal-small}
 use Rattle.ledgers.proofs.Accepted.{AcceptedLedger, accepted-ledger, ledger-refused, ledger-of}
+use Rattle.counting.proofs.Accepted.{grants-few}
 use Rattle.questions.proofs.Asking.{judged-asked, verdict-answers, ask-ledger, ask-p, ask-q, ask-label, ask-answer}
 use borrow.Author.Needs.{needs}
 use Rattle.questions.proofs.ask.Statement.{statement}
@@ -49,8 +50,8 @@ enum-told-3 c = search needs
 term-refusal-requires : tie.Need-term-refusal-requires
 term-refusal-requires c κs = search needs
 
-add-t15 : tie.Need-add-t15
-add-t15 c = omega (arith, refusal-small _ _ _ _ (c .before .before .before .read-term .ensures) (c .term-refusal .ensures))
+add-t14 : tie.Need-add-t14
+add-t14 c = omega (arith, refusal-small _ _ _ _ (c .before .before .before .read-term .ensures) (c .term-refusal .ensures))
 
 returns-2 : tie.Need-returns-2
 returns-2 c =
@@ -70,8 +71,8 @@ enum-told-5 c = search needs
 term-refusal-requires-2 : tie.Need-term-refusal-requires-2
 term-refusal-requires-2 c κs = search needs
 
-add-t17 : tie.Need-add-t17
-add-t17 c = omega (arith, refusal-small _ _ _ _ (c .before .before .before .read-term2 .ensures) (c .term-refusal2 .ensures))
+add-t16 : tie.Need-add-t16
+add-t16 c = omega (arith, refusal-small _ _ _ _ (c .before .before .before .read-term2 .ensures) (c .term-refusal2 .ensures))
 
 returns-3 : tie.Need-returns-3
 returns-3 c =
@@ -93,8 +94,8 @@ enum-told-7 c = search needs
 term-refusal-requires-3 : tie.Need-term-refusal-requires-3
 term-refusal-requires-3 c κs = search needs
 
-add-t19 : tie.Need-add-t19
-add-t19 c = omega (arith, refusal-small _ _ _ _ (c .before .before .before .read-term3 .ensures) (c .term-refusal3 .ensures))
+add-t18 : tie.Need-add-t18
+add-t18 c = omega (arith, refusal-small _ _ _ _ (c .before .before .before .read-term3 .ensures) (c .term-refusal3 .ensures))
 
 returns-4 : tie.Need-returns-4
 returns-4 c =
@@ -106,11 +107,8 @@ returns-4 c =
     ask-label _ _ _ _ _ (l .ledger) _ (l .is) (l .names) (tp .term) (tp .is) (tq .term) (tq .is) _
     (term-refused _ _ _ _ (c .before .before .before .read-term3 .ensures) (c .term-refusal3 .ensures) _ (c .before .enum-told7 .given .1))
 
-counted-requires : tie.Need-counted-requires
-counted-requires c κs = search needs
-
 judge-requires : tie.Need-judge-requires
-judge-requires c κs = search needs
+judge-requires c κs = grants-few _ _ _ _ (ledger-of _ _ _ (book (c .before .before .before .before .before .before .before .before .before)))
 
 answered-requires : tie.Need-answered-requires
 answered-requires c κs = search needs
@@ -118,7 +116,7 @@ answered-requires c κs = search needs
 returns-5 : tie.Need-returns-5
 returns-5 c =
     let v = c .before in
-    let d = v .before .before in
+    let d = v .before in
     let q = d .before .before .before in
     let p = q .before .before .before in
     let l = book (p .before .before .before) in
@@ -128,7 +126,7 @@ returns-5 c =
     let a = p .before .before .before .before .before .before .before .before .before .before .before .args in
     verdict-answers (v .judge .result) _ (c .answered .ensures)
     ∙ ap answerTo (v .judge .ensures)
-    ∙ judged-asked (a .relation) _ _ _ _ _ _ _ (l .ledger) (tp .term) (tq .term) (L .term) (ledger-of _ _ _ l) (tp .is) (tq .is) (L .is) (v .before .counted .ensures)
+    ∙ judged-asked (a .relation) _ _ _ _ _ _ (l .ledger) (tp .term) (tq .term) (L .term) (ledger-of _ _ _ l) (tp .is) (tq .is) (L .is)
     ∙ ask-answer _ _ _ _ _ (l .ledger) _ (l .is) (l .names) (tp .term) (tp .is) (tq .term) (tq .is) (L .term) (L .is)
 
 pub ask-spec : {M : Type 1} → statement M
@@ -144,21 +142,20 @@ ask-spec =
     enum-told-2
     enum-told-3
     term-refusal-requires
-    add-t15
+    add-t14
     returns-2
     read-term-requires-2
     enum-told-4
     enum-told-5
     term-refusal-requires-2
-    add-t17
+    add-t16
     returns-3
     read-term-requires-3
     enum-told-6
     enum-told-7
     term-refusal-requires-3
-    add-t19
+    add-t18
     returns-4
-    counted-requires
     judge-requires
     answered-requires
     returns-5)

@@ -1,6 +1,4 @@
 -- `questions::lowest_of` meets its contract. Assumes nothing.
-use native.Mathlib.Omega.{arith}
-use Rattle.questions.proofs.Searching.{lowest-small, lowest-bit}
 use borrow.Author.Needs.{needs}
 use Rattle.questions.proofs.lowest_of.Statement.{statement}
 use Rattle.questions.proofs.lowest_of.Tie as tie
@@ -8,17 +6,17 @@ use Rattle.questions.proofs.lowest_of.Tie as tie
 mul-result : tie.Need-mul-result
 mul-result c = search needs
 
-lowest-requires : tie.Need-lowest-requires
-lowest-requires c κs = search needs
+lowest-in-requires : tie.Need-lowest-in-requires
+lowest-in-requires c κs = search needs
 
 add-result : tie.Need-add-result
-add-result c = omega (arith, lowest-small _ _ (omega arith) (c .lowest .ensures))
+add-result c = search needs
 
 cast-result : tie.Need-cast-result
-cast-result c = omega (arith, lowest-small _ _ (omega arith) (c .lowest .ensures))
+cast-result c = search needs
 
 returns : tie.Need-returns
-returns c nonzero = rw (lowest-bit _ _ (omega arith) (c .lowest .ensures) nonzero)
+returns c some = rw (c .lowest-in .ensures .1 some)
 
 pub lowest-of-spec : {M : Type 1} → statement M
-lowest-of-spec = tie.close (tie.spec mul-result lowest-requires add-result cast-result returns)
+lowest-of-spec = tie.close (tie.spec mul-result lowest-in-requires add-result cast-result returns)

@@ -1,0 +1,15 @@
+-- Where the terms of grant k begin in a ledger (document 01, "The ledger"). Assumes nothing: these are definitions.
+use Prim.Native.Nat.{ℕ, _+_, _*_}
+
+-- the block of grant k begins after block 0 and those of the grants before it
+abbrev pub blockPlace : ℕ → ℕ
+blockPlace k = 512 * (k + 1)
+
+abbrev pub pPlace : ℕ → ℕ
+pPlace k = blockPlace k + 16
+
+abbrev pub qPlace : ℕ → ℕ
+qPlace k = blockPlace k + 80
+
+abbrev pub labelPlace : ℕ → ℕ
+labelPlace k = blockPlace k + 144

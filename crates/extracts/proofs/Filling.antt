@@ -1,4 +1,4 @@
--- A half of an extract, filled word by word: the marks of n names from the front, the rest 00 as from 2^n up. Assumes nothing.
+-- A half of an extract, filled row by row: the marks of n names from the front, the rest 00 as from 2^n up. Assumes nothing.
 use mathlib.Core.Path.{_≡_, refl, sym, ap, ap₂, _∙_}
 use mathlib.Core.Bool.{Bool, false, _&&_}
 use mathlib.Core.List.{List, _∷_, _++_}
@@ -13,10 +13,12 @@ use Rattle.model.specs.Sides.{confidentiality, integrity}
 use Rattle.model.specs.Coalitions.{Marks, mark, packed}
 use Rattle.model.specs.Extracts.{packedBytes}
 use Rattle.model.proofs.Table.{length-packed}
-use Rattle.words.specs.Evaluation.{wordCount}
+use Rattle.words.specs.declared.Row.{Row}
+use Rattle.words.specs.FourWords.{RowAt}
+use Rattle.words.specs.Evaluation.{rowCount}
 use Rattle.words.proofs.Packing.{packed-zero}
-use Rattle.words.proofs.Names.{words-enough, words-few, words-most}
-use Rattle.extracts.specs.Halves.{littleEndian, blank, Halves}
+use Rattle.words.proofs.Names.{rows-enough, rows-few, rows-most}
+use Rattle.extracts.specs.Halves.{littleEndian, pasteWord, pasteRow, blank, Halves}
 use Rattle.extracts.proofs.Pasting.{paste-long, paste-after}
 use Rattle.extracts.proofs.WordBytes.{length-bytes, marks-bytes}
 
@@ -60,36 +62,54 @@ module _ (f : ℕ → Bool) where
       (ap (λ (l : List ℕ). packedBytes f 0 (8 * w) ++ l) (word-bytes w) ∙ sym (bytes-append f 0 (8 * w) 8) ∙ ap (packedBytes f 0) k)
       (ap (λ (i : ℕ). drop 8 (blank i)) z ∙ drop-blank 8 (512 - 8 * (w + 1)))
 
--- a turn of the loop: word w is put into a half
-module _ (half next : List ℕ) (w word : ℕ) (h : w < 64) (put : next ≡ paste half (8 * w) (littleEndian 8 word) 8) where
+-- word w is put into a half
+module _ (half next : List ℕ) (w word : ℕ) (h : w < 64) (put : next ≡ pasteWord half w word) where
+  pub word-length : length half ≡ 512 → length next ≡ 512
+  word-length e = paste-long half next (8 * w) 8 (littleEndian 8 word) (omega arith) (le-of-eq (sym (length-bytes 8 word))) put ∙ e
+
+  word-half : (f : ℕ → Bool) → word ≡ packed f (64 * w) 64 → half ≡ halfTo f w → next ≡ halfTo f (w + 1)
+  word-half f e i = put ∙ ap₂ (λ (l : List ℕ) (x : ℕ). paste l (8 * w) (littleEndian 8 x) 8) i e ∙ half-more f w h
+
+-- a turn of the loop: row g is put into a half
+module _ (half next : List ℕ) (g : ℕ) (row : Row) (h : g < 16) (put : next ≡ pasteRow half g row) where
   pub turn-length : length half ≡ 512 → length next ≡ 512
-  turn-length e = paste-long half next (8 * w) 8 (littleEndian 8 word) (omega arith) (le-of-eq (sym (length-bytes 8 word))) put ∙ e
+  turn-length e =
+      word-length _ next (4 * g + 3) (row .d) (omega arith) put
+      (word-length _ _ (4 * g + 2) (row .c) (omega arith) refl (word-length _ _ (4 * g + 1) (row .b) (omega arith) refl (word-length half _ (4 * g) (row .a) (omega arith) refl e)))
 
-  pub turn-half : (f : ℕ → Bool) → word ≡ packed f (64 * w) 64 → half ≡ halfTo f w → next ≡ halfTo f (w + 1)
-  turn-half f e i = put ∙ ap₂ (λ (l : List ℕ) (x : ℕ). paste l (8 * w) (littleEndian 8 x) 8) i e ∙ half-more f w h
+  pub turn-half : (f : ℕ → Bool) → RowAt f g row → half ≡ halfTo f (4 * g) → next ≡ halfTo f (4 * (g + 1))
+  turn-half f r i =
+      let one : 4 * g + 0 ≡ 4 * g = omega arith in
+      let two : 4 * g + 1 + 1 ≡ 4 * g + 2 = omega arith in
+      let three : 4 * g + 2 + 1 ≡ 4 * g + 3 = omega arith in
+      let end : 4 * g + 3 + 1 ≡ 4 * (g + 1) = omega arith in
+      let a = word-half half _ (4 * g) (row .a) (omega arith) refl f (rw one at (r .word 0 (omega arith))) i in
+      let b = word-half _ _ (4 * g + 1) (row .b) (omega arith) refl f (r .word 1 (omega arith)) a in
+      let c = word-half _ _ (4 * g + 2) (row .c) (omega arith) refl f (r .word 2 (omega arith)) (b ∙ ap (halfTo f) two) in
+      word-half _ next (4 * g + 3) (row .d) (omega arith) put f (r .word 3 (omega arith)) (c ∙ ap (halfTo f) three) ∙ ap (halfTo f) end
 
--- no coalition of n names stands past their words, or these fill the half
-past-words : (n c : ℕ) → 64 * wordCount n ≤ c → c < 4096 → 2 ^ n ≤ c
-past-words n c a b = elim (decLt 12 n) [
-  | yes l ↦ absurd (omega (arith, words-most n (le-of-lt l)))
-  | no l ↦ omega (arith, words-enough n (omega arith))
+-- no coalition of n names stands past their rows, or these fill the half
+past-rows : (n c : ℕ) → 256 * rowCount n ≤ c → c < 4096 → 2 ^ n ≤ c
+past-rows n c a b = elim (decLt 12 n) [
+  | yes l ↦ absurd (omega (arith, rows-most n (le-of-lt l)))
+  | no l ↦ omega (arith, rows-enough n (omega arith))
 ]
 
--- all words of n names: from 2^n up all bits are clear
-pub half-end : (n : ℕ) (f : ℕ → Bool) → halfTo (mark n f) (wordCount n) ≡ packedBytes (mark n f) 0 512
+-- all rows of n names: from 2^n up all bits are clear
+pub half-end : (n : ℕ) (f : ℕ → Bool) → halfTo (mark n f) (4 * rowCount n) ≡ packedBytes (mark n f) 0 512
 unfolding halfTo mark
 half-end n f =
-    let w = wordCount n in
-    let few = words-few n in
+    let w = 4 * rowCount n in
+    let few = rows-few n in
     let k : 8 * w + (512 - 8 * w) ≡ 512 = omega arith in
     ap (λ (l : List ℕ). packedBytes (mark n f) 0 (8 * w) ++ l)
-    (sym (clear (mark n f) (0 + 8 * w) (512 - 8 * w) (λ c a b. ap (λ (t : Bool). t && f c) (le-ltb c (2 ^ n) (past-words n c (omega arith) (omega arith))))))
+    (sym (clear (mark n f) (0 + 8 * w) (512 - 8 * w) (λ c a b. ap (λ (t : Bool). t && f c) (le-ltb c (2 ^ n) (past-rows n c (omega arith) (omega arith))))))
     ∙ sym (bytes-append (mark n f) 0 (8 * w) (512 - 8 * w)) ∙ ap (packedBytes (mark n f) 0) k
 
--- both halves with the marks of the first w words
-pub record Filled (n : ℕ) (S : Marks) (w : ℕ) (see change : List ℕ) : Type 0 where
-  pub see-half : see ≡ halfTo (mark n (S confidentiality)) w
-  pub change-half : change ≡ halfTo (mark n (S integrity)) w
+-- both halves with the marks of the first g rows
+pub record Filled (n : ℕ) (S : Marks) (g : ℕ) (see change : List ℕ) : Type 0 where
+  pub see-half : see ≡ halfTo (mark n (S confidentiality)) (4 * g)
+  pub change-half : change ≡ halfTo (mark n (S integrity)) (4 * g)
 
 pub filled-start : (n : ℕ) (S : Marks) (see change : List ℕ) → see ≡ blank 512 → change ≡ blank 512 → Filled n S 0 see change
 filled-start n S see change a b = record {
@@ -97,8 +117,8 @@ filled-start n S see change a b = record {
   change-half = b ∙ half-start (mark n (S integrity));
 }
 
-pub filled-end : (n : ℕ) (S : Marks) (w : ℕ) (see change : List ℕ) → w ≡ wordCount n → Filled n S w see change → Halves n S see change
-filled-end n S w see change e f = record {
-  see-half = f .see-half ∙ ap (halfTo (mark n (S confidentiality))) e ∙ half-end n (S confidentiality);
-  change-half = f .change-half ∙ ap (halfTo (mark n (S integrity))) e ∙ half-end n (S integrity);
+pub filled-end : (n : ℕ) (S : Marks) (g : ℕ) (see change : List ℕ) → g ≡ rowCount n → Filled n S g see change → Halves n S see change
+filled-end n S g see change e f = record {
+  see-half = f .see-half ∙ ap (λ (k : ℕ). halfTo (mark n (S confidentiality)) (4 * k)) e ∙ half-end n (S confidentiality);
+  change-half = f .change-half ∙ ap (λ (k : ℕ). halfTo (mark n (S integrity)) (4 * k)) e ∙ half-end n (S integrity);
 }

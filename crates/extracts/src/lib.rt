@@ -2,18 +2,18 @@
 use ledgers::LedgerReading;
 use words::Row;
 ghost use mathlib.Core.Path.{_≡_};
-ghost use Prim.Native.Nat.{_+_, _*_, _≤_, _<_};
+ghost use Prim.Native.Nat.{_+_, _≤_, _<_};
 ghost use lib.ListN.{length};
 ghost use lib.Seq.{paste};
 ghost use Rattle.model.specs.Extracts.{extract};
 ghost use Rattle.soundness.specs.Keeping.{soundIn};
-ghost use Rattle.extracts.specs.Halves.{littleEndian, blank, Halves};
+ghost use Rattle.extracts.specs.Halves.{pasteWord, pasteRow, blank, Halves};
 ghost use Rattle.extracts.specs.Results.{outcomeOf};
 
 // Bytes 8 × w to 8 × w + 7 of a half become those of a word of marks, lowest first: coalition c is bit c mod 8 of byte c div 8.
 fn put_word(half: &mut [u8; 512], w: usize, word: u64)
     requires { ⌜ (w < 64) × (length (now half) ≡ 512) ⌝ }
-    ensures { λ _. ⌜ now (half .exit) ≡ paste (now (half .entry)) (8 * w) (littleEndian 8 word) 8 ⌝ }
+    ensures { λ _. ⌜ now (half .exit) ≡ pasteWord (now (half .entry)) w word ⌝ }
 {
     let mut k: usize = 0;
     while k < 8 {
@@ -23,7 +23,10 @@ fn put_word(half: &mut [u8; 512], w: usize, word: u64)
 }
 
 // Bytes 32 × g to 32 × g + 31 of a half become those of a row.
-fn put_row(half: &mut [u8; 512], g: u64, row: Row) {
+fn put_row(half: &mut [u8; 512], g: u64, row: Row)
+    requires { ⌜ (g < 16) × (length (now half) ≡ 512) ⌝ }
+    ensures { λ _. ⌜ now (half .exit) ≡ pasteRow (now (half .entry)) g row ⌝ }
+{
     let w = 4 * g as usize;
     put_word(half, w, row.a);
     put_word(half, w + 1, row.b);

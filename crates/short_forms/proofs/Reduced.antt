@@ -1,7 +1,7 @@
 -- Words of the coalitions that are marked with one member less, and so the word of the minimal ones. Assumes nothing.
 use mathlib.Core.Path.{_≡_, refl, sym, ap, ap₂, _∙_, subst}
 use mathlib.Core.Bool.{Bool, true, false, not, _&&_, and-comm, and-assoc}
-use mathlib.Core.List.{List, [], _∷_}
+use mathlib.Core.List.{List}
 use Prim.Native.Nat.{ℕ, _+_, _-_, _*_, _/_, _%_, _^_, _≤_, _<_}
 use native.Mathlib.Nat.{mul-comm, mul-assoc, add-mul, mul-lt-mul-of-pos-right, add-comm, zero-add}
 use native.Mathlib.Numerals.{add-one}
@@ -11,15 +11,10 @@ use lib.Dec.{leb}
 use lib.ListN.{getD}
 use lib.Pow.{pow-mono, pow-add, pow-pos, low}
 use borrow.Author.Tests.{eqb-true, le-leb, lt-leb}
-use Rattle.model.specs.Sides.{confidentiality}
 use Rattle.model.specs.Coalitions.{member, packed, implies, every}
-use Rattle.model.specs.Terms.{Term, name, codes, NamesBelow, held}
 use Rattle.model.proofs.Truth.{clash, false-of}
 use Rattle.model.proofs.Packed.{packed-lt, own-bits}
 use Rattle.model.proofs.Monotone.{member-le}
-use Rattle.words.specs.AnyBytes.{termIn}
-use Rattle.words.specs.Evaluation.{Evaluated}
-use Rattle.words.proofs.AnyBytes.{term-codes}
 use Rattle.words.proofs.Packing.{packed-shift, packed-cong, packed-and, packed-not, packed-none, packed-zero, packed-split}
 use Rattle.words.proofs.Names.{below-six, high-member, words-full, shifted}
 use Rattle.short_forms.specs.Listings.{marked, markedWithout, irredundant}
@@ -101,13 +96,9 @@ marked-word words w h =
 
 module _ (words : List ℕ) (w i : ℕ) where
   -- what the code answers at a name below 6: the marks moved up, of the coalitions that have the name
-  pub less-moved : (see change next : ℕ) → i < 6 → getD words w 0 < 2 ^ 64 → Evaluated (i ∷ []) 0 w see change next
-      → bitAnd (getD words w 0 * 2 ^ (1 * 2 ^ i % 2 ^ 64) % 2 ^ 64) see ≡ packed (markedWithout i (marked words)) (64 * w) 64
-  unfolding codes NamesBelow held
-  less-moved see change next h fits e =
-      let one : termIn (i ∷ []) ≡ name i = term-codes 12 (i ∷ []) (name i) refl (omega arith) in
-      let have : see ≡ packed (member i) (64 * w) 64 = e .words .see-word ∙ ap (λ (t : Term). packed (held t confidentiality) (64 * w) 64) one in
-      rw (have, shifted i (omega arith), marked-word words w fits) (less-low (marked words) w i h)
+  pub less-moved : (having : ℕ) → i < 6 → getD words w 0 < 2 ^ 64 → having ≡ packed (member i) (64 * w) 64
+      → bitAnd (getD words w 0 * 2 ^ (1 * 2 ^ i % 2 ^ 64) % 2 ^ 64) having ≡ packed (markedWithout i (marked words)) (64 * w) 64
+  less-moved having h fits e = rw (e, shifted i (omega arith), marked-word words w fits) (less-low (marked words) w i h)
 
   -- and at a name from 6 up that they have: the marks of another word
   pub less-read : 6 ≤ i → i < 12 → member (i - 6) w ≡ true → getD words (w - 1 * 2 ^ (i - 6) % 2 ^ 64) 0 < 2 ^ 64

@@ -6,6 +6,7 @@ use Prim.Native.Nat.{ℕ, _+_, _-_, _*_, _/_, _^_, _≤_, _<_}
 use native.Mathlib.Nat.{div-one}
 use native.Mathlib.Omega.{arith}
 use lib.Bits.{bitAnd}
+use lib.Dec.{ltb}
 use lib.ListN.{length, take, drop, length-append, take-append-drop}
 use lib.Seq.{length-take-le, drop-at}
 use Rattle.model.specs.Sides.{confidentiality, integrity}
@@ -17,13 +18,18 @@ use Rattle.model.proofs.Listed.{those-add, those-cong, those-marks, length-mark
 use Rattle.model.proofs.Packed.{member-packed}
 use Rattle.words.specs.Evaluation.{LowestBit, Tabled, coalitionWord, wordCount}
 use Rattle.words.proofs.Names.{words-enough}
-use Rattle.words.proofs.Searches.{packed-mark}
+use Rattle.words.proofs.Packing.{packed-and}
 use Rattle.short_forms.specs.Listings.{marked, bitsOf, irredundant, listing, FrontWritten}
 use Rattle.short_forms.proofs.Needed.{listing-listed}
 use Rattle.short_forms.proofs.Fronts.{front-same, front-part}
 use Rattle.short_forms.proofs.Bits.{passed, passed-few, NextBit, bits-end, bits-next}
 
 -- ---- a word
+
+-- the mask leaves the coalitions of n names
+packed-mark : (n : ℕ) (f : ℕ → Bool) (w : ℕ) → bitAnd (coalitionWord n w) (packed f (64 * w) 64) ≡ packed (mark n f) (64 * w) 64
+unfolding mark
+packed-mark n f w = packed-and (λ c. ltb c (2 ^ n)) f (64 * w) 64
 
 -- the bits of the word before number c are written, and `rest` is what is left of it
 pub record WordListed (word first : ℕ) (before now : List ℕ) (rest c at : ℕ) : Type 0 where

@@ -24,8 +24,9 @@ fn less_word(marks: &[u64], i: u64, w: u64) -> u64
 {
     let place = w as usize;
     if i < 6 {
+        let having = words::name_word(i as u8, w);
         let up: u64 = 1 << i;
-        return (marks[place] << up) & words::name_word(i as u8, w);
+        return (marks[place] << up) & having;
     }
     if (w >> (i - 6)) % 2 == 1 {
         let down: usize = 1 << (i - 6);

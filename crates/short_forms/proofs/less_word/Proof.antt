@@ -7,14 +7,11 @@ use borrow.Author.Needs.{needs}
 use Rattle.short_forms.proofs.less_word.Statement.{statement}
 use Rattle.short_forms.proofs.less_word.Tie as tie
 
-cast-t10 : tie.Need-cast-t10
-cast-t10 c = search needs
+cast-name-word : tie.Need-cast-name-word
+cast-name-word c = search needs
 
-slice-aggregate-words-of : tie.Need-slice-aggregate-words-of
-slice-aggregate-words-of c = search needs
-
-words-of-requires : tie.Need-words-of-requires
-words-of-requires c κs = search needs
+name-word-requires : tie.Need-name-word-requires
+name-word-requires c κs = search needs
 
 shl-up : tie.Need-shl-up
 shl-up c = search needs
@@ -26,10 +23,12 @@ shared-slice-read-result : tie.Need-shared-slice-read-result
 shared-slice-read-result c = search needs
 
 shl-result : tie.Need-shl-result
-shl-result c = shift-lt _ (c .before .before .before .if1 .taken)
+shl-result c = shift-lt _ (c .before .before .if1 .taken)
 
 returns : tie.Need-returns
-returns c = less-moved _ _ _ _ _ _ (c .before .before .before .before .if1 .taken) (c .before .shared-slice-known2 .given (c .before .before .before .before .before .before .args .w) .fits) (c .before .before .words-of .ensures)
+returns c =
+    let t = c .before .before in
+    less-moved _ _ _ _ (t .if1 .taken) (c .shared-slice-known2 .given (t .before .before .args .w) .fits) (c .before .name-word .ensures)
 
 shr-if2 : tie.Need-shr-if2
 shr-if2 c = search needs
@@ -56,9 +55,8 @@ pub less-word-spec : {M : Type 1} → statement M
 less-word-spec =
     tie.close
     (tie.spec
-    cast-t10
-    slice-aggregate-words-of
-    words-of-requires
+    cast-name-word
+    name-word-requires
     shl-up
     mul-result
     shared-slice-read-result

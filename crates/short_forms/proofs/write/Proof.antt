@@ -1,11 +1,13 @@
 -- `short_forms::write` meets its contract. Assumes nothing.
-use Prim.Native.Nat.{_≤_}
+use Prim.Native.Nat.{_*_, _≤_}
 use native.Mathlib.Omega.{arith}
 use lib.ListN.{length-take, length-drop}
 use lib.Pow.{pow-mono}
 use borrow.Author.Needs.{needs}
 use Rattle.words.proofs.AnyBytes.{term-codes}
-use Rattle.words.proofs.Names.{words-few}
+use Rattle.words.specs.Evaluation.{rowCount}
+use Rattle.words.proofs.Names.{words-few, rows-few, words-in-rows}
+use Rattle.words.proofs.Tables.{tabled-few}
 use Rattle.short_forms.proofs.Sides.{listing-few, sides-written}
 use Rattle.short_forms.proofs.write.Statement.{statement}
 use Rattle.short_forms.proofs.write.Tie as tie
@@ -64,11 +66,12 @@ returns c =
     let e = first .before .before .before in
     let s = start e in
     let tables = e .evaluate .ensures in
-    let room = words-few (s .args .n) in
+    let n = s .args .n in
+    let room : 4 * rowCount n ≤ 64 = omega (arith, rows-few n) in
     record {
       term = λ t is b.
           let one = term-codes _ _ t is b in
-          sides-written (s .pre .0) b (rw one at (tables .0 .table room)) (rw one at (tables .1 .table room)) (first .list-side .ensures) (c .before .before .list-side2 .ensures);
+          sides-written (s .pre .0) b (tabled-few (words-in-rows n) (rw one at (tables .0 .table room))) (tabled-few (words-in-rows n) (rw one at (tables .1 .table room))) (first .list-side .ensures) (c .before .before .list-side2 .ensures);
     }
 
 pub write-spec : {M : Type 1} → statement M

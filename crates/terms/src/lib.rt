@@ -1,5 +1,7 @@
 // Reads terms: one byte for each code, operator first (document 01, "Terms").
 ghost use mathlib.Core.Path.{_≡_};
+ghost use mathlib.Core.Bool.{true};
+ghost use Prim.Native.Nat.{_+_};
 ghost use Rattle.model.specs.Terms.{codeOf, readTerm};
 ghost use Rattle.terms.specs.Readings.{shapeOf, partAt, refusalOf, termReading, termRefusal};
 
@@ -50,36 +52,53 @@ fn shape_of(code: u8, n: u64) -> Shape
     }
 }
 
-// Reads the part that starts at `at`.
+// The part that starts at `at` is a single code.
+fn single(codes: &[u8], at: usize, n: u64) -> bool
+    ensures { λ r. ⌜ (r ≡ true → partAt (now (codes .entry)) at n ≡ PartReading.Next (at + 1)) ⌝ }
+{
+    if codes.len() <= at {
+        return false;
+    }
+    let kind = shape_of(codes[at], n);
+    let Shape::Whole = kind else {
+        return false;
+    };
+    true
+}
+
+// Reads the part that starts at `at`. It ends where its last part ends, so the loop goes on to that one. A first part of a single code is
+// passed in place; any other is read by a call.
 fn read_part(codes: &[u8], at: usize, n: u64) -> PartReading
     ensures { λ r. ⌜ r ≡ partAt (now (codes .entry)) at n ⌝ }
 {
-    if codes.len() <= at {
-        return PartReading::Stopped(3);
-    }
-    let kind = shape_of(codes[at], n);
-    match kind {
-        Shape::Whole => PartReading::Next(at + 1),
-        Shape::One => {
-            let part = read_part(codes, at + 1, n);
-            let PartReading::Next(end) = part else {
-                return part;
-            };
-            PartReading::Next(end)
+    let mut here = at;
+    while here < codes.len() {
+        let kind = shape_of(codes[here], n);
+        match kind {
+            Shape::Whole => {
+                return PartReading::Next(here + 1);
+            }
+            Shape::One => {
+                here += 1;
+            }
+            Shape::Two => {
+                let short = single(codes, here + 1, n);
+                if short {
+                    here += 2;
+                } else {
+                    let first = read_part(codes, here + 1, n);
+                    let PartReading::Next(second) = first else {
+                        return first;
+                    };
+                    here = second;
+                }
+            }
+            Shape::NoCode => {
+                return PartReading::Stopped(2);
+            }
         }
-        Shape::Two => {
-            let first = read_part(codes, at + 1, n);
-            let PartReading::Next(second) = first else {
-                return first;
-            };
-            let last = read_part(codes, second, n);
-            let PartReading::Next(end) = last else {
-                return last;
-            };
-            PartReading::Next(end)
-        }
-        Shape::NoCode => PartReading::Stopped(2),
     }
+    PartReading::Stopped(3)
 }
 
 // The number of the refusal of a part.

@@ -1,42 +1,44 @@
 -- Laws of the weighted sum of a block's check. Assumes nothing.
-use Prim.Native.Nat.{ℕ, suc, _+_, _*_, _≤_, _<_}
+use Prim.Native.Nat.{ℕ, zero, suc, _+_, _*_, _≤_, _<_}
 use native.Mathlib.Nat.{mul-le-mul, add-zero, zero-add, add-assoc, mul-zero, add-mul, mul-add}
 use native.Mathlib.Numerals.{add-one}
 use native.Mathlib.Omega.{arith}
-use mathlib.Core.Path.{_≡_, sym, ap, _∙_}
+use mathlib.Core.Path.{_≡_, refl, sym, ap, _∙_}
+use mathlib.Core.Bool.{true, false}
 use mathlib.Core.List.{List, [], _∷_, _++_}
+use lib.Dec.{eqb·suc-zero}
 use lib.ListN.{length, take, drop, getD, drop-of-length-le}
 use lib.Seq.{drop-cons, length-take-le, take-add}
+use Rattle.model.specs.Bytes.{zeros}
 use Rattle.model.specs.Ledgers.{weighted}
-use Rattle.ledgers.specs.Forms.{total, Summed}
+use Rattle.ledgers.specs.Columns.{total}
 
--- ---- a row
-module _ (row : List ℕ) (fits : length row ≡ 102) where
-  -- before byte i: what was summed, and what is to come, is the whole sum
-  pub weight-more : (i sum whole : ℕ) → i < 102 → sum + weighted i (drop i row) ≡ whole → sum + (i + 1) * getD row i 0 + weighted (i + 1) (drop (i + 1) row) ≡ whole
+-- ---- one number after another: number i, and what comes after it
+module _ (l : List ℕ) (i : ℕ) (h : i < length l) where
+  pub weight-next : (place : ℕ) → weighted place (drop i l) ≡ (place + 1) * getD l i 0 + weighted (place + 1) (drop (i + 1) l)
   unfolding weighted
-  weight-more i sum whole h e =
-      let split : weighted i (drop i row) ≡ (i + 1) * getD row i 0 + weighted (i + 1) (drop (i + 1) row) = rw (drop-cons row i 0 (omega arith), add-one i) in
-      omega arith
+  weight-next place = rw (drop-cons l i 0 h, add-one i, add-one place)
 
-  pub total-more : (i sum whole : ℕ) → i < 102 → sum + total (drop i row) ≡ whole → sum + getD row i 0 + total (drop (i + 1) row) ≡ whole
+  pub total-next : total (drop i l) ≡ getD l i 0 + total (drop (i + 1) l)
   unfolding total
-  total-more i sum whole h e =
-      let split : total (drop i row) ≡ getD row i 0 + total (drop (i + 1) row) = rw (drop-cons row i 0 (omega arith), add-one i) in
-      omega arith
+  total-next = rw (drop-cons l i 0 h, add-one i)
 
-  pub row-end : (i sum weight : ℕ) → i ≡ 102 → sum + total (drop i row) ≡ total row → weight + weighted i (drop i row) ≡ weighted 0 row
-      → (sum ≡ total row) × (weight ≡ weighted 0 row)
-  unfolding weighted total
-  row-end i sum weight h s w =
-      let none : drop i row ≡ [] = drop-of-length-le row {i = i} (omega arith) in
-      (sym (add-zero sum) ∙ rw none at s, sym (add-zero weight) ∙ rw none at w)
+-- and nothing at the end
+module _ (l : List ℕ) (i : ℕ) (h : length l ≤ i) where
+  pub weight-end : (place : ℕ) → weighted place (drop i l) ≡ 0
+  unfolding weighted
+  weight-end place = rw (drop-of-length-le l {i = i} h)
 
--- a product of the row: its weight is at most 102 and its byte at most 255
-pub product-most : (i b : ℕ) → i < 102 → b < 256 → (i + 1) * b ≤ 26010
-product-most i b h k = mul-le-mul {n₁ = i + 1} {m₁ = b} {n₂ = 102} {m₂ = 255} (omega arith) (omega arith)
+  pub total-end : total (drop i l) ≡ 0
+  unfolding total
+  total-end = rw (drop-of-length-le l {i = i} h)
 
--- ---- rows one after another
+-- ---- lists one after another
+pub total-append : (l m : List ℕ) → total (l ++ m) ≡ total l + total m
+unfolding total
+total-append [] m = rw zero-add
+total-append (b ∷ l) m = let ih = total-append l m in omega arith
+
 weighted-append : (i : ℕ) (l m : List ℕ) → weighted i (l ++ m) ≡ weighted i l + weighted (i + length l) m
 unfolding weighted
 weighted-append i [] m = rw (add-zero, zero-add)
@@ -56,13 +58,36 @@ weighted-shift at i (b ∷ l) =
     let f : at * (b + total l) ≡ at * b + at * total l = mul-add at b (total l) in
     rw (e, ih, d, f) (omega arith)
 
--- the sum of the first rows, and of one row more
-pub rows-more : (block : List ℕ) (at sum total-of weight : ℕ) → at + 102 ≤ length block → sum ≡ weighted 0 (take at block)
-    → Summed (take 102 (drop at block)) total-of weight → sum + (at * total-of + weight) ≡ weighted 0 (take (at + 102) block)
-rows-more block at sum total-of weight h e s =
-    let row = take 102 (drop at block) in
-    let size : length (take at block) ≡ at = length-take-le at block (omega arith) in
-    let shifted : weighted at row ≡ at * total row + weighted 0 row = ap (λ k. weighted k row) (sym (add-zero at)) ∙ weighted-shift at 0 row in
-    let split : weighted 0 (take (at + 102) block) ≡ weighted 0 (take at block) + weighted at row =
-    ap (weighted 0) (take-add at 102 block) ∙ weighted-append 0 (take at block) row ∙ ap (λ k. weighted 0 (take at block) + weighted k row) (zero-add (length (take at block)) ∙ size) in
-    rw (split, shifted, e, s .sum-is, s .weight-is)
+-- the numbers from i on weigh their total, and what those after i weigh by themselves
+pub weight-once-more : (l : List ℕ) (i : ℕ) → i < length l → weighted 0 (drop i l) ≡ total (drop i l) + weighted 0 (drop (i + 1) l)
+weight-once-more l i h =
+    omega (arith, weight-next l i h 0, total-next l i h, weighted-shift 1 0 (drop (i + 1) l), zero-add 1)
+
+-- the first m bytes, and the k that follow
+module _ (m k : ℕ) (l : List ℕ) (h : m ≤ length l) where
+  pub weight-parts : weighted 0 (take (m + k) l) ≡ weighted 0 (take m l) + weighted m (take k (drop m l))
+  weight-parts =
+      ap (weighted 0) (take-add m k l) ∙ weighted-append 0 (take m l) (take k (drop m l))
+      ∙ ap (λ (place : ℕ). weighted 0 (take m l) + weighted place (take k (drop m l))) (zero-add (length (take m l)) ∙ length-take-le m l h)
+
+  pub weight-rows : weighted 0 (take (m + k) l) ≡ weighted 0 (take m l) + (m * total (take k (drop m l)) + weighted 0 (take k (drop m l)))
+  weight-rows =
+      weight-parts
+      ∙ ap (λ (w : ℕ). weighted 0 (take m l) + w) (ap (λ (place : ℕ). weighted place (take k (drop m l))) (sym (add-zero m)) ∙ weighted-shift m 0 (take k (drop m l)))
+
+-- ---- filler weighs nothing
+pub weighted-zeros : (i : ℕ) (l : List ℕ) → zeros l ≡ true → weighted i l ≡ 0
+unfolding weighted zeros
+weighted-zeros i [] e = refl
+weighted-zeros i (zero ∷ l) e = rw (mul-zero, zero-add) (weighted-zeros (suc i) l e)
+weighted-zeros i (suc b ∷ l) e =
+    let f : false ≡ true = rw eqb·suc-zero at e in
+    cc
+
+-- ---- a byte that weighs at most 510 adds at most 510 × 255
+pub weighted-most : (i n : ℕ) (l : List ℕ) → i + n ≤ 510 → ((k : ℕ) → getD l k 0 ≤ 255) → weighted i (take n l) ≤ 130050 * n
+unfolding weighted
+weighted-most i zero l h bytes = omega arith
+weighted-most i (suc n) [] h bytes = omega arith
+weighted-most i (suc n) (b ∷ l) h bytes =
+    omega (arith, mul-le-mul {n₁ = i + 1} {m₁ = b} {n₂ = 510} {m₂ = 255} (omega arith) (bytes 0), weighted-most (suc i) n l (omega arith) (λ k. bytes (suc k)))

@@ -6,7 +6,8 @@
 # make check-c       the tests in C alone
 # make check-pkg-config check-install
 #                    the example against build/ and against an installed library, as pkg-config finds them
-# make bench         how fast the library is beside the reference
+# make bench         how fast the library is beside the reference: make bench BEFORE=HEAD~9 also beside the archive
+#                    of that revision, which it builds in build/before-..
 # make fuzz          a fuzzer for a while: make fuzz SECONDS=60
 # make stack-use     how much stack a call takes
 # make cases-data    the data file of the test program `cases`, made again
@@ -36,7 +37,8 @@ PKGCONFIGDIR = $(LIBDIR)/pkgconfig
 BOTH = tests/calls.c tests/build.c reference/reference.c
 BOTH_AND_LIB = $(BOTH) tests/library.c $(LIB)
 RANDOM = tests/random_calls.c tests/coverage.c
-HEADERS = $(wildcard include/*.h reference/*.h tests/*.h)
+BENCH = bench/bench.c bench/jobs.c $(RANDOM) $(BOTH_AND_LIB)
+HEADERS = $(wildcard include/*.h reference/*.h tests/*.h bench/*.h)
 
 library: build/librights.a build/rights.h build/rights.pc
 
@@ -88,12 +90,32 @@ build/worked_cases: tests/worked_cases.c $(BOTH_AND_LIB)
 build/compare: tests/compare.c $(RANDOM) $(BOTH_AND_LIB)
 build/stack_use: tests/stack_use.c $(RANDOM) $(BOTH_AND_LIB)
 build/make_cases: tests/make_cases.c $(RANDOM) $(BOTH)
-build/bench: bench/bench.c $(RANDOM) $(BOTH_AND_LIB)
+build/bench: $(BENCH)
 
 build/header: CFLAGS += -DPC_VERSION=$$(PKG_CONFIG_PATH=build pkg-config --modversion rights)
 build/worked_cases build/compare: CFLAGS += $(SANITIZE)
 build/stack_use: CFLAGS += -pthread
 build/bench: CFLAGS += -O3
+
+BENCH_PROGRAM = build/bench
+
+# the benchmark with the archive of an earlier revision, whose entry points get other names
+ifdef BEFORE
+REVISION := $(or $(shell git rev-parse --verify --short '$(BEFORE)^{commit}'),$(error no revision $(BEFORE)))
+BENCH_PROGRAM = build/bench-$(REVISION)
+PROGRAMS += $(BENCH_PROGRAM)
+ENTRY_POINTS = rights_acts_for rights_flows_to rights_extract rights_short_form rights_check_derivation
+
+$(BENCH_PROGRAM): $(BENCH) bench/before.c build/before-$(REVISION)/librights.a
+$(BENCH_PROGRAM): CFLAGS += -O3 -DBEFORE='"$(REVISION)"'
+
+build/before-$(REVISION)/librights.a: | build
+	rm -rf $(@D)
+	mkdir $(@D)
+	git archive $(REVISION) | tar -x -C $(@D)
+	cd $(@D) && rt staticlib rights
+	objcopy $(foreach e,$(ENTRY_POINTS),--redefine-sym $e=before_$e) $(@D)/target/staticlib/librights.a $@
+endif
 
 # the README's first program
 build/first.c: README.md | build
@@ -151,8 +173,8 @@ check-install: build/workflow_installed
 stack-use: build/stack_use
 	build/stack_use
 
-bench: build/bench
-	build/bench
+bench: $(BENCH_PROGRAM)
+	$(BENCH_PROGRAM)
 
 fuzz: build/fuzz
 	mkdir -p build/corpus

@@ -1,0 +1,42 @@
+/*
+ * The jobs of the benchmark, and the calls on them.
+ *
+ * A job has n names, and grants whose p and q all have the same number of codes. All is asked under the label 21.
+ * A grant counts exactly if its label is its grantor's own word: 41 and then q.
+ *
+ * There are two sorts of ledgers. In a chain each name is granted to act for the next one, the names in some order
+ * and the grants in another; other grants stand between these, and half of the others don't count. In a breaking
+ * ledger every grant counts, and breaks a coalition that no other grant breaks: one that holds its p and not its q.
+ */
+#ifndef JOBS_H
+#define JOBS_H
+
+#include "calls.h"
+
+#include <stdbool.h>
+
+struct job {
+    unsigned n, grants, codes;
+};
+
+/* Makes a call on a job; other seeds give other names, shapes and orders. */
+typedef void make_call(struct call *call, struct job job, unsigned seed);
+
+/* On a chain: a yes without any grant, and the first name of the chain for the last. */
+make_call make_static_yes, make_chain_yes, make_chain_extract;
+
+/* On a breaking ledger; the no is as is_late_no says. */
+make_call make_late_no, make_breaking_extract, make_derivation;
+
+/* On grants that need not break anything of their own: p and q of the first. */
+make_call make_granted_yes;
+
+make_call make_short_form;
+
+/* A no on the change side by one of the last 64 coalitions: nearly all were looked at. */
+bool is_late_no(uint32_t answer, unsigned n);
+
+/* Is the grant's label 41 and then q? */
+bool meant_to_count(const struct ledger *ledger, unsigned grant);
+
+#endif

@@ -6,7 +6,7 @@ ghost use Prim.Native.Nat.{_+_, _*_, _≤_, _<_};
 ghost use lib.ListN.{length, take};
 ghost use Rattle.model.specs.Bytes.{byte, field};
 ghost use Rattle.model.specs.Terms.{readTerm};
-ghost use Rattle.model.specs.Ledgers.{weighted, checked, header, grantBlocks, allChecked, headerForm, grantForm, grantBlock, pBytes, qBytes, labelBytes, readGrant, readGrants, readLedger, readBook};
+ghost use Rattle.model.specs.Ledgers.{weighted, checked, header, grantBlocks, allChecked, headerForm, grantForm, grantBlock, pBytes, qBytes, readGrant, readGrants, readLedger, readBook};
 ghost use Rattle.terms.specs.Readings.{termReading};
 ghost use Rattle.ledgers.specs.Forms.{termForm};
 ghost use Rattle.ledgers.specs.Columns.{total, added, Columns};
@@ -318,7 +318,7 @@ pub fn grant_block(ledger: &[u8], k: usize) -> &[u8]
     fields::piece(ledger, 512, k + 1)
 }
 
-// Where grant k's p, q and label stand, parts of the ledger; empty parts where there is no such grant.
+// Where grant k's p and q stand, parts of the ledger; empty parts where there is no such grant.
 pub fn grant_p(ledger: &[u8], k: usize) -> &[u8]
     ensures { λ r. ⌜ now r ≡ pBytes (grantBlock (now (ledger .entry)) k) ⌝ }
 {
@@ -329,12 +329,6 @@ pub fn grant_q(ledger: &[u8], k: usize) -> &[u8]
     ensures { λ r. ⌜ now r ≡ qBytes (grantBlock (now (ledger .entry)) k) ⌝ }
 {
     fields::term_part(grant_block(ledger, k), 2, 80)
-}
-
-pub fn grant_label(ledger: &[u8], k: usize) -> &[u8]
-    ensures { λ r. ⌜ now r ≡ labelBytes (grantBlock (now (ledger .entry)) k) ⌝ }
-{
-    fields::term_part(grant_block(ledger, k), 3, 144)
 }
 
 // Where the terms of grant k begin in a ledger, which has 64 grants at most.

@@ -28,7 +28,7 @@ pub fn broken(ledger: &[u8], k: usize, g: u64, of: Rows) -> Rows
 }
 
 // Those of two rows that keep each grant whose bit is set. It ends where none is left.
-pub fn keep_all(ledger: &[u8], grants: usize, chosen: u64, g: u64, of: Rows) -> Rows
+fn keep_all(ledger: &[u8], grants: usize, chosen: u64, g: u64, of: Rows) -> Rows
     ensures { λ r. ⌜ ((f : Marks) → RowsAt f g of → RowsAt (λ s c. f s c && soundIn (now (ledger .entry)) grants chosen s c) g r) ⌝ }
 {
     let mut kept = of;

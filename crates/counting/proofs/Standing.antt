@@ -1,7 +1,7 @@
 -- A term that stands in a block is the term that the bytes from its place on stand for. Assumes nothing.
 use mathlib.Core.Path.{_≡_, sym, ap, ap₂, _∙_}
 use mathlib.Core.List.{List, _++_, append-assoc}
-use Prim.Native.Nat.{ℕ, _+_, _≤_, _<_}
+use Prim.Native.Nat.{ℕ, _+_, _*_, _≤_, _<_, min}
 use native.Mathlib.Omega.{arith}
 use lib.ListN.{length, take, drop, getD, take-append-drop, length-take, length-drop}
 use lib.Seq.{drop-append-le, drop-drop}
@@ -13,7 +13,6 @@ use Rattle.model.specs.Ledgers.{Ledger, grantBlock, readLedger}
 use Rattle.model.proofs.Stands.{TermStands, ledger-stands}
 use Rattle.words.specs.AnyBytes.{Taken, termIn}
 use Rattle.words.proofs.AnyBytes.{taken-codes}
-use Rattle.ledgers.specs.Places.{blockPlace}
 use Rattle.counting.specs.Counted.{grantIn}
 
 -- whatever follows in the block and after it
@@ -42,9 +41,10 @@ pub grant-in : (bytes : List ℕ) (l : Ledger) (k : ℕ) (other : Grant) → rea
 grant-in bytes l k other e below =
     let s = ledger-stands bytes l e in
     let g = s .grant k other below in
-    let room : blockPlace k + 512 ≤ length bytes = omega (arith, s .size) in
+    let here : min k 64 ≡ k = omega (arith, s .count-most) in
+    let room : 512 * (k + 1) + 512 ≤ length bytes = omega (arith, s .size) in
     let block : List ℕ = grantBlock bytes k in
-    let p = term-at (l .names) (blockPlace k) 16 (byte 1 block) bytes (getD (l .grants) k other .p) (omega arith) room (g .p) in
-    let q = term-at (l .names) (blockPlace k) 80 (byte 2 block) bytes (getD (l .grants) k other .q) (omega arith) room (g .q) in
-    let label = term-at (l .names) (blockPlace k) 144 (byte 3 block) bytes (getD (l .grants) k other .label) (omega arith) room (g .label) in
-    rw (p, q, label)
+    let p = term-at (l .names) (512 * (k + 1)) 16 (byte 1 block) bytes (getD (l .grants) k other .p) (omega arith) room (g .p) in
+    let q = term-at (l .names) (512 * (k + 1)) 80 (byte 2 block) bytes (getD (l .grants) k other .q) (omega arith) room (g .q) in
+    let label = term-at (l .names) (512 * (k + 1)) 144 (byte 3 block) bytes (getD (l .grants) k other .label) (omega arith) room (g .label) in
+    rw here (rw (p, q, label))

@@ -49,8 +49,8 @@ pub record KnownOf (f : ℕ → Bool) (known : Known) : Type 0 where
   pub judged : (k : ℕ) → k < 64 → member k (known .unjudged) ≡ false → member k (known .possible) ≡ f k
   pub closed : (k : ℕ) → k < 64 → member k (known .possible) ≡ false → f k ≡ false
 
--- what is known once it is known whether grant k, which may count, counts
+-- what is known once it is known whether grant k, if it may count, does
 abbrev pub judgedAt : Bool → ℕ → Known → Known
-judgedAt counts k known = cond (member k (known .unjudged))
+judgedAt counts k known = cond (member k (known .possible) && member k (known .unjudged))
     (record { unjudged = known .unjudged - 2 ^ k; possible = cond counts (known .possible) (known .possible - 2 ^ k) })
     known

@@ -1,8 +1,6 @@
 // Which grants count under a label (document 01, "Grants that count").
 use words::Row;
 ghost use mathlib.Core.Path.{_≡_};
-ghost use mathlib.Core.Bool.{true};
-ghost use Prim.Native.Nat.{_<_};
 ghost use Rattle.model.specs.Coalitions.{member, mark};
 ghost use Rattle.model.specs.Terms.{held};
 ghost use Rattle.model.specs.Grants.{marksOf};
@@ -13,7 +11,6 @@ ghost use Rattle.counting.specs.Counted.{grantIn, barsCounting, countsAt
 // Those of row g that bar grant k from counting under the label: they see the label and not the grant's, or change the grant's and not the label, or
 // change it and don't hold the voice of q. Where none changes the grant's label there is no need of q.
 fn barring(ledger: &[u8], k: usize, label: &[u8], g: u64) -> Row
-    requires { ⌜ k < 64 ⌝ }
     ensures { λ r. ⌜ RowAt (barsCounting (held (termIn (now (label .entry)))) (marksOf (grantIn (now (ledger .entry)) k))) g r ⌝ }
 {
     let asked = words::hold(label, 0, g);
@@ -34,7 +31,6 @@ fn barring(ledger: &[u8], k: usize, label: &[u8], g: u64) -> Row
 
 // And those that are coalitions of n names. The mask is needed only where there are any.
 fn barring_of(ledger: &[u8], n: u64, k: usize, label: &[u8], g: u64) -> Row
-    requires { ⌜ k < 64 ⌝ }
     ensures { λ r. ⌜ RowAt (mark n (barsCounting (held (termIn (now (label .entry)))) (marksOf (grantIn (now (ledger .entry)) k)))) g r ⌝ }
 {
     let bars = barring(ledger, k, label, g);
@@ -46,7 +42,6 @@ fn barring_of(ledger: &[u8], n: u64, k: usize, label: &[u8], g: u64) -> Row
 
 // Grant k counts under the label: it is visible and spoken.
 pub fn counts(ledger: &[u8], n: u64, k: usize, label: &[u8]) -> bool
-    requires { ⌜ k < 64 ⌝ }
     ensures { λ r. ⌜ r ≡ countsAt (now (ledger .entry)) n (now (label .entry)) k ⌝ }
 {
     let rows = words::row_count(n);
@@ -94,19 +89,24 @@ pub fn unknown() -> Known
     }
 }
 
-// Grant k may count.
+// Grant k may count; past the 64 grants there are none.
 pub fn may_count(known: Known, k: usize) -> bool
-    requires { ⌜ k < 64 ⌝ }
     ensures { λ r. ⌜ r ≡ member k (known .possible) ⌝ }
 {
+    if 64 <= k {
+        return false;
+    }
     (known.possible >> k) % 2 == 1
 }
 
-// What is known once grant k, which may count, is judged. It is judged once.
+// What is known once grant k, if it may count, is judged. It is judged once.
 pub fn judge(ledger: &[u8], n: u64, k: usize, label: &[u8], known: Known) -> Known
-    requires { ⌜ (k < 64) × (member k (known .possible) ≡ true) ⌝ }
     ensures { λ r. ⌜ r ≡ judgedAt (countsAt (now (ledger .entry)) n (now (label .entry)) k) k known ⌝ }
 {
+    let may = may_count(known, k);
+    if !may {
+        return known;
+    }
     if (known.unjudged >> k) % 2 == 0 {
         return known;
     }

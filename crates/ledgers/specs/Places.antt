@@ -1,9 +1,9 @@
 -- Where the terms of grant k begin in a ledger (document 01, "The ledger"). Assumes nothing: these are definitions.
-use Prim.Native.Nat.{ℕ, _+_, _*_}
+use Prim.Native.Nat.{ℕ, _+_, _*_, min}
 
--- the block of grant k begins after block 0 and those of the grants before it
+-- The block of grant k begins after block 0 and those of the grants before it. No ledger has more grants than 64: a k past that is taken as 64.
 abbrev pub blockPlace : ℕ → ℕ
-blockPlace k = 512 * (k + 1)
+blockPlace k = 512 * (min k 64 + 1)
 
 abbrev pub pPlace : ℕ → ℕ
 pPlace k = blockPlace k + 16

@@ -331,24 +331,30 @@ pub fn grant_q(ledger: &[u8], k: usize) -> &[u8]
     fields::term_part(grant_block(ledger, k), 2, 80)
 }
 
-// Where the terms of grant k begin in a ledger, which has 64 grants at most.
+// Where the terms of grant k begin in a ledger; past its 64 grants at most, a place that no ledger reaches.
 pub fn p_place(k: usize) -> usize
-    requires { ⌜ k < 64 ⌝ }
     ensures { λ r. ⌜ r ≡ pPlace k ⌝ }
 {
+    if 64 < k {
+        return 33296;
+    }
     512 * k + 528
 }
 
 pub fn q_place(k: usize) -> usize
-    requires { ⌜ k < 64 ⌝ }
     ensures { λ r. ⌜ r ≡ qPlace k ⌝ }
 {
+    if 64 < k {
+        return 33360;
+    }
     512 * k + 592
 }
 
 pub fn label_place(k: usize) -> usize
-    requires { ⌜ k < 64 ⌝ }
     ensures { λ r. ⌜ r ≡ labelPlace k ⌝ }
 {
+    if 64 < k {
+        return 33424;
+    }
     512 * k + 656
 }

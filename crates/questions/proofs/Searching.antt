@@ -24,7 +24,7 @@ use Rattle.questions.specs.declared.Relation.{Relation}
 use Rattle.questions.specs.declared.Verdict.{Verdict}
 use Rattle.questions.specs.declared.Verdict.the-variants.{Holds, Refuted}
 use Rattle.questions.specs.Answers.{sideOf}
-use Rattle.questions.specs.Searching.{verdictOf, fromOf, toOf, judgeOf, opposedOf, refutersOf, lowestBit, orElse, raised, lowestIn, placed, seeOnly, stillOf, stillRows, laterOf, furtherOf, foundTo, Deciding}
+use Rattle.questions.specs.Searching.{verdictOf, fromOf, toOf, judgeOf, opposedOf, refutersOf, lowestBit, firstOf, raised, lowestIn, placed, seeOnly, stillOf, stillRows, laterOf, furtherOf, foundTo, Deciding}
 use Rattle.questions.proofs.Refuting.{refuters-are}
 
 -- the number of the lowest bit is 64 at most
@@ -68,7 +68,7 @@ module _ (f : ℕ → Bool) where
           sym (lowest-found f i 64 j clear m)
 
   -- what is found below i + t, or else below i + k
-  first-of : (i t k : ℕ) (l m : Lowest) → t ≤ k → raised i l ≡ lowest f (i + t) → (lowest f (i + t) ≡ nowhere → raised i m ≡ lowest f (i + k)) → raised i (orElse l m) ≡ lowest f (i + k)
+  first-of : (i t k : ℕ) (l m : Lowest) → t ≤ k → raised i l ≡ lowest f (i + t) → (lowest f (i + t) ≡ nowhere → raised i m ≡ lowest f (i + k)) → raised i (firstOf l m) ≡ lowest f (i + k)
   first-of i t k nowhere m h e next = next (sym e)
   first-of i t k (at j) m h e next = sym (lowest-kept f (i + t) (i + k) (i + j) (sym e) (omega arith))
 
@@ -84,10 +84,10 @@ module _ (f : ℕ → Bool) where
       word-at 192 256 (x .d) clear (word 3 (256 * g + 192) (omega arith) (omega arith)) (omega arith)))))
     where
       after-second : Lowest
-      after-second = orElse (raised 128 (lowestBit (x .c))) (raised 192 (lowestBit (x .d)))
+      after-second = firstOf (raised 128 (lowestBit (x .c))) (raised 192 (lowestBit (x .d)))
 
       after-first : Lowest
-      after-first = orElse (raised 64 (lowestBit (x .b))) after-second
+      after-first = firstOf (raised 64 (lowestBit (x .b))) after-second
 
       word : (j i : ℕ) → j < 4 → 64 * (4 * g + j) ≡ i → wordIn x j ≡ packed f i 64
       word j i h e = r .word j h ∙ ap (λ (k : ℕ). packed f k 64) e

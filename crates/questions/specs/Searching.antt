@@ -58,10 +58,10 @@ refutersOf relation n S p q s = mark (jobOf n) (refutes S (fromOf relation p q) 
 abbrev pub lowestBit : ℕ → Lowest
 lowestBit x = lowest (λ j. member j x) 64
 
--- the first, or else the second
-abbrev pub orElse : Lowest → Lowest → Lowest
-orElse (at j) b = at j
-orElse nowhere b = b
+-- the first, or where there is none the second
+abbrev pub firstOf : Lowest → Lowest → Lowest
+firstOf (at j) b = at j
+firstOf nowhere b = b
 
 -- a number that is counted from i on
 abbrev pub raised : ℕ → Lowest → Lowest
@@ -70,7 +70,7 @@ raised i (at j) = at (i + j)
 
 -- the number of the lowest coalition of a row, counted from the row's first
 abbrev pub lowestIn : Row → Lowest
-lowestIn x = orElse (lowestBit (x .a)) (orElse (raised 64 (lowestBit (x .b))) (orElse (raised 128 (lowestBit (x .c))) (raised 192 (lowestBit (x .d)))))
+lowestIn x = firstOf (lowestBit (x .a)) (firstOf (raised 64 (lowestBit (x .b))) (firstOf (raised 128 (lowestBit (x .c))) (raised 192 (lowestBit (x .d)))))
 
 -- the coalition with such a number in row g; there are 16 rows at most
 abbrev pub placed : ℕ → Lowest → Lowest

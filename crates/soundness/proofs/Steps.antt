@@ -2,13 +2,11 @@
 use mathlib.Core.Path.{_≡_, refl, sym, ap, _∙_}
 use mathlib.Core.Bool.{Bool, true, false, not, _&&_, and-true, and-assoc}
 use mathlib.Core.List.{List}
-use Prim.Native.Nat.{ℕ, _+_, _*_, _/_, _%_, _^_, _≤_, _<_}
+use Prim.Native.Nat.{ℕ, _+_, _*_, _/_, _%_, _^_, _≤_}
 use native.Mathlib.Numerals.{add-one}
-use native.Mathlib.Nat.{div-eq-of-lt}
-use native.Mathlib.Decide.{decLt}
 use native.Mathlib.Omega.{arith}
 use lib.Bits.{bitAnd}
-use lib.Pow.{pow-mono, shr-shr}
+use lib.Pow.{shr-shr}
 use borrow.Author.Tests.{eq-eqb, ne-eqb}
 use Rattle.model.specs.Sides.{Side}
 use Rattle.model.specs.Coalitions.{member, Marks, implies, every}
@@ -68,17 +66,6 @@ kept-all d f g of gone a b none =
     same true true false e = absurd (clash refl e)
 
 -- ---- the grants one after another
-
--- a bit of a word stands below 64
-pub odd-below : (chosen k left : ℕ) → chosen < 2 ^ 64 → left ≡ chosen / 2 ^ k → left % 2 ≡ 1 → k < 64
-odd-below chosen k left small e odd = elim (decLt k 64) [
-  | yes h ↦ h
-  | no h ↦ (
-      let most : 64 ≤ k = omega arith in
-      let none : chosen / 2 ^ k ≡ 0 = div-eq-of-lt (omega (arith, pow-mono most)) in
-      absurd (omega arith)
-      )
-]
 
 module _ (ledger : List ℕ) (chosen : ℕ) (f : Marks) (g : ℕ) where
   -- those of f that keep each of the first k grants whose bit is set

@@ -1,7 +1,6 @@
 // Which coalitions keep the grants whose bits are set: the sound ones, where these are the grants that count (document 01, "Grants that count").
 use words::Rows;
 ghost use mathlib.Core.Bool.{_&&_};
-ghost use Prim.Native.Nat.{_<_};
 ghost use Rattle.model.specs.Coalitions.{Marks, mark};
 ghost use Rattle.model.specs.Grants.{marksOf};
 ghost use Rattle.words.specs.FourWords.{RowsAt};
@@ -10,7 +9,6 @@ ghost use Rattle.soundness.specs.Keeping.{breaks, soundIn};
 
 // Those of two rows that break grant k: they hold its p and not its q. Where none holds its p there is no need of q.
 pub fn broken(ledger: &[u8], k: usize, g: u64, of: Rows) -> Rows
-    requires { ⌜ k < 64 ⌝ }
     ensures { λ r. ⌜ ((f : Marks) → RowsAt f g of → RowsAt (λ s c. f s c && breaks (marksOf (grantIn (now (ledger .entry)) k)) s c) g r) ⌝ }
 {
     let from = words::hold(ledger, ledgers::p_place(k), g);

@@ -114,9 +114,11 @@ pub fn none(x: Rows) -> bool
 
 // The coalitions of word w that have name i as a member.
 pub fn name_word(i: u8, w: u64) -> u64
-    requires { ⌜ i < 12 ⌝ }
     ensures { λ r. ⌜ r ≡ packed (member i) (64 * w) 64 ⌝ }
 {
+    if 70 <= i {
+        return NONE;
+    }
     match i {
         0 => 0xAAAA_AAAA_AAAA_AAAA,
         1 => 0xCCCC_CCCC_CCCC_CCCC,

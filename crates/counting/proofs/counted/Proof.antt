@@ -29,7 +29,7 @@ sub-k : tie.Need-sub-k Inv-loop μ-loop
 sub-k c = omega arith
 
 counts-requires : tie.Need-counts-requires Inv-loop μ-loop
-counts-requires c κs = omega arith
+counts-requires c κs = tt
 
 cast-counted : tie.Need-cast-counted Inv-loop μ-loop
 cast-counted c = search needs

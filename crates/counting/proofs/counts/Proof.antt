@@ -39,7 +39,7 @@ loop-holds : tie.Need-loop-holds Inv-loop μ-loop
 loop-holds c = (c .row-count .ensures, omega arith, clear-none _ _)
 
 barring-of-requires : tie.Need-barring-of-requires Inv-loop μ-loop
-barring-of-requires c κs = c .before .before .before .before .before .pre
+barring-of-requires c κs = tt
 
 empty-requires : tie.Need-empty-requires Inv-loop μ-loop
 empty-requires c κs = tt

@@ -35,7 +35,7 @@ returns-2 c f h =
     sift-kept counts (a .args .k) (a .pre) (grantIn (a .args .ledger .now) (a .args .k)) f _ _ h _ (c .before .before .broken .ensures f (h .rows)) (sym (c .before .none .ensures) ∙ c .if2 .taken)
 
 judge-requires : tie.Need-judge-requires
-judge-requires c κs = (c .before .before .before .before .before .before .before .before .before .pre, may (c .before .before .before))
+judge-requires c κs = search needs
 
 may-count-requires-2 : tie.Need-may-count-requires-2
 may-count-requires-2 c κs = search needs

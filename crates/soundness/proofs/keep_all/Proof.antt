@@ -6,7 +6,7 @@ use mathlib.Core.Path.{_≡_, sym, _∙_, subst}
 use mathlib.Core.Logic.{⊎-elim}
 use Rattle.model.specs.Coalitions.{Marks}
 use Rattle.words.specs.FourWords.{RowsAt}
-use Rattle.soundness.proofs.Steps.{odd-below, keepFirst, keep-none, keep-empty, bits-next, so-far-keep, so-far-skip}
+use Rattle.soundness.proofs.Steps.{keepFirst, keep-none, keep-empty, bits-next, so-far-keep, so-far-skip}
 use Rattle.soundness.proofs.keep_all.Statement.{statement}
 use Rattle.soundness.proofs.keep_all.Tie as tie
 
@@ -29,9 +29,7 @@ returns c f v =
     keep-empty _ _ f _ _ _ _ (o .loop .inv .0) (o .loop .inv .2 f v) (sym (c .before .none .ensures) ∙ c .if2 .taken)
 
 broken-requires : tie.Need-broken-requires Inv-loop μ-loop
-broken-requires c κs =
-    let o = c .before .before .before .before in
-    odd-below (o .before .before .args .chosen) (o .loop .k) (o .loop .left) (omega arith) (o .loop .inv .1) (c .before .before .if1 .taken)
+broken-requires c κs = tt
 
 rest-requires : tie.Need-rest-requires Inv-loop μ-loop
 rest-requires c κs = tt

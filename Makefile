@@ -95,7 +95,10 @@ build/bench: $(BENCH)
 build/header: CFLAGS += -DPC_VERSION=$$(PKG_CONFIG_PATH=build pkg-config --modversion rights)
 build/worked_cases build/compare: CFLAGS += $(SANITIZE)
 build/stack_use: CFLAGS += -pthread
-build/bench: CFLAGS += -O3
+# functions on cache lines of their own, so that the reference stands alike with and without an earlier archive
+BENCH_CFLAGS = -O3 -falign-functions=64
+
+build/bench: CFLAGS += $(BENCH_CFLAGS)
 
 BENCH_PROGRAM = build/bench
 
@@ -107,7 +110,7 @@ PROGRAMS += $(BENCH_PROGRAM)
 ENTRY_POINTS = rights_acts_for rights_flows_to rights_extract rights_short_form rights_check_derivation
 
 $(BENCH_PROGRAM): $(BENCH) bench/before.c build/before-$(REVISION)/librights.a
-$(BENCH_PROGRAM): CFLAGS += -O3 -DBEFORE='"$(REVISION)"'
+$(BENCH_PROGRAM): CFLAGS += $(BENCH_CFLAGS) -DBEFORE='"$(REVISION)"'
 
 build/before-$(REVISION)/librights.a: | build
 	rm -rf $(@D)

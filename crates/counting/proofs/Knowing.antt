@@ -6,8 +6,8 @@ use native.Mathlib.Decide.{ℕ-discrete, decLt}
 use native.Mathlib.Omega.{arith}
 use native.Mathlib.Nat.{one-mul, mod-eq-of-lt}
 use lib.Pow.{pow-mono, pow-lt}
-use borrow.Author.Tests.{eq-eqb, ne-eqb}
-use Rattle.model.specs.Coalitions.{member, packed}
+use borrow.Author.Tests.{eq-eqb}
+use Rattle.model.specs.Coalitions.{member}
 use Rattle.model.proofs.Truth.{clash}
 use Rattle.model.proofs.Packed.{member-packed}
 use Rattle.model.proofs.Monotone.{member-past, less-lacks, less-keeps}

@@ -12,7 +12,7 @@ use Rattle.words.specs.declared.Rows.{Rows}
 use Rattle.words.specs.FourWords.{RowsAt, eachRow, lacksWord, emptyRows}
 use Rattle.words.proofs.FourWords.{rows-cong}
 use Rattle.counting.specs.declared.Known.{Known}
-use Rattle.counting.specs.Counted.{grantIn, countsAt, countsIn, countedIn, KnownOf, judgedAt}
+use Rattle.counting.specs.Counted.{grantIn, countsAt, countsIn, countedIn, judgedAt}
 use Rattle.counting.proofs.Knowing.{known-judged}
 use Rattle.soundness.specs.Keeping.{breaks}
 use Rattle.soundness.proofs.Steps.{kept-rows, kept-all, keepFirst, keep-step}

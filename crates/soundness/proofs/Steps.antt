@@ -2,20 +2,19 @@
 use mathlib.Core.Path.{_≡_, refl, sym, ap, _∙_}
 use mathlib.Core.Bool.{Bool, true, false, not, _&&_, and-true, and-assoc}
 use mathlib.Core.List.{List}
-use Prim.Native.Nat.{ℕ, _+_, _*_, _/_, _%_, _^_, _≤_}
+use Prim.Native.Nat.{ℕ, _+_, _/_, _%_, _^_, _≤_}
 use native.Mathlib.Numerals.{add-one}
 use native.Mathlib.Omega.{arith}
 use lib.Bits.{bitAnd}
 use lib.Pow.{shr-shr}
 use borrow.Author.Tests.{eq-eqb, ne-eqb}
-use Rattle.model.specs.Sides.{Side}
 use Rattle.model.specs.Coalitions.{member, Marks, implies, every}
 use Rattle.model.specs.Terms.{held}
 use Rattle.model.specs.Grants.{Grant, marksOf, keeps}
 use Rattle.model.proofs.Truth.{clash, false-of}
 use Rattle.model.proofs.Search.{every-elim, every-intro}
 use Rattle.words.specs.declared.Rows.{Rows}
-use Rattle.words.specs.FourWords.{RowsAt, eachRow, lacks, lacksWord, emptyRows}
+use Rattle.words.specs.FourWords.{RowsAt, eachRow, lacksWord, emptyRows}
 use Rattle.words.proofs.FourWords.{rows-cong, rows-empty, rows-both, rows-rest}
 use Rattle.counting.specs.Counted.{grantIn}
 use Rattle.soundness.specs.Keeping.{breaks, soundIn}

@@ -1,9 +1,9 @@
 -- Laws of the term that any bytes stand for: code by code, and that the bytes of a term stand for it. Assumes nothing.
 use mathlib.Core.Path.{_≡_, refl, sym, ap, _∙_}
 use mathlib.Core.List.{List, [], _∷_, _++_, append-assoc, append-nil}
-use Prim.Native.Nat.{ℕ, zero, suc, _≤_, _<_}
+use Prim.Native.Nat.{ℕ, zero, suc, _≤_}
 use native.Mathlib.Omega.{arith}
-use lib.ListN.{length, drop, getD, length-append, length-drop}
+use lib.ListN.{length, drop, length-append, length-drop}
 use lib.Seq.{drop-append-seam}
 use Rattle.model.specs.Readings.{accepted}
 use Rattle.model.specs.Terms.{Term, name, top, bottom, conj, disj, project, projectCode, Code, whole, one, two, none, codeOf, codes, NamesBelow, readTerm}

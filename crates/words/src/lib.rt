@@ -158,8 +158,8 @@ fn name_row(i: u8, g: u64) -> Row
     }
 }
 
-// A row of a term on both sides, and the place after the term's codes. The place stands first: after the words it sets the pairs apart in which the
-// processor reads and writes them.
+// A row of a term on both sides, and the place after the term's codes. The place stands first: with it last the compiler pairs the words off by one, and
+// each pair is read back slowly.
 pub struct Held {
     pub next: usize,
     pub rows: Rows,

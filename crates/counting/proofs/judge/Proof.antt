@@ -1,7 +1,7 @@
 -- `counting::judge` meets its contract. Assumes nothing.
 use mathlib.Core.Path.{_≡_, sym, _∙_}
 use mathlib.Core.Bool.{true}
-use Prim.Native.Nat.{_^_, _≤_, _<_}
+use Prim.Native.Nat.{_<_}
 use native.Mathlib.Nat.{le-trans, le-of-eq}
 use native.Mathlib.Omega.{arith}
 use borrow.Author.Tests.{not-true, not-false}

@@ -8,8 +8,6 @@ use Rattle.model.specs.Sides.{Side}
 use Rattle.model.specs.Coalitions.{every}
 use Rattle.model.specs.Questions.{holds, refuted}
 use Rattle.model.proofs.Truth.{false-of}
-use Rattle.words.specs.AnyBytes.{termIn}
-use Rattle.words.specs.Evaluation.{jobOf}
 use Rattle.soundness.specs.Keeping.{soundIn}
 use Rattle.questions.specs.Searching.{verdictOf}
 use Rattle.questions.proofs.Refuting.{judged-static}

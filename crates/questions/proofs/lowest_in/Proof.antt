@@ -1,10 +1,6 @@
 -- `questions::lowest_in` meets its contract. Assumes nothing.
 use native.Mathlib.Omega.{arith}
-use mathlib.Core.Path.{_≡_, sym, _∙_}
-use mathlib.Core.Bool.{false}
-use Prim.Native.Nat.{_≤_, _^_, _<_}
 use Rattle.model.proofs.Truth.{clash}
-use Rattle.words.specs.FourWords.{emptyRow}
 use Rattle.words.proofs.FourWords.{words-empty}
 use Rattle.questions.proofs.Searching.{lowest-small, lowest-bit, first-word, second-word, third-word, fourth-word}
 use borrow.Author.Needs.{needs}

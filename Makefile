@@ -7,7 +7,7 @@
 # make check-pkg-config check-install
 #                    the example against build/ and against an installed library, as pkg-config finds them
 # make bench         how fast the library is beside the reference: make bench BEFORE=HEAD~9 also beside the archive
-#                    of that revision, which it builds in build/before-..
+#                    of that revision, which it builds first
 # make fuzz          a fuzzer for a while: make fuzz SECONDS=60
 # make stack-use     how much stack a call takes
 # make cases-data    the data file of the test program `cases`, made again
@@ -95,6 +95,7 @@ build/bench: $(BENCH)
 build/header: CFLAGS += -DPC_VERSION=$$(PKG_CONFIG_PATH=build pkg-config --modversion rights)
 build/worked_cases build/compare: CFLAGS += $(SANITIZE)
 build/stack_use: CFLAGS += -pthread
+
 # functions on cache lines of their own, so that the reference stands alike with and without an earlier archive
 BENCH_CFLAGS = -O3 -falign-functions=64
 
@@ -109,15 +110,14 @@ BENCH_PROGRAM = build/bench-$(REVISION)
 PROGRAMS += $(BENCH_PROGRAM)
 ENTRY_POINTS = rights_acts_for rights_flows_to rights_extract rights_short_form rights_check_derivation
 
-$(BENCH_PROGRAM): $(BENCH) bench/before.c build/before-$(REVISION)/librights.a
+$(BENCH_PROGRAM): $(BENCH) bench/before.c build/before-$(REVISION).a
 $(BENCH_PROGRAM): CFLAGS += $(BENCH_CFLAGS) -DBEFORE='"$(REVISION)"'
 
-build/before-$(REVISION)/librights.a: | build
-	rm -rf $(@D)
-	mkdir $(@D)
-	git archive $(REVISION) | tar -x -C $(@D)
-	cd $(@D) && rt staticlib rights
-	objcopy $(foreach e,$(ENTRY_POINTS),--redefine-sym $e=before_$e) $(@D)/target/staticlib/librights.a $@
+# made outside of the repository: rt would look for crates among its files
+build/before-$(REVISION).a: | build
+	tree=$$(mktemp -d) && git archive $(REVISION) | tar -x -C $$tree && (cd $$tree && rt staticlib rights) && \
+		objcopy $(foreach e,$(ENTRY_POINTS),--redefine-sym $e=before_$e) $$tree/target/staticlib/librights.a $@; \
+		status=$$?; rm -rf $$tree; exit $$status
 endif
 
 # the README's first program

@@ -1,5 +1,5 @@
 -- Rows of the coalitions that bar a grant from counting. Assumes nothing.
-use mathlib.Core.Path.{_≡_, refl, sym, ap}
+use mathlib.Core.Path.{_≡_, refl, sym, ap, _∙_}
 use mathlib.Core.Bool.{Bool, true, false, not, _&&_, _||_, or-false}
 use Prim.Native.Nat.{ℕ, _^_, _<_}
 use native.Mathlib.Omega.{arith}
@@ -16,26 +16,33 @@ use Rattle.words.proofs.FourWords.{row-cong, row-both, row-either, row-lacks, r
 use Rattle.words.proofs.Names.{few-coalitions}
 use Rattle.counting.specs.Counted.{barsCounting}
 
--- those that see L and not the grant's label, or change this and not L, from the rows of both
-abbrev pub hiddenRow : Rows → Rows → Row
-hiddenRow under own = eachWord bitOr (eachWord lacksWord (under .see) (own .see)) (eachWord lacksWord (own .change) (under .change))
-
 -- from the rows of the label L, of the grant's label and of its q
 module _ (L : Marks) (d : GrantMarks) (g : ℕ) (under own : Rows) (a : RowsAt L g under) (b : RowsAt (d .label) g own) where
-  -- those that show that the grant is not visible
-  hidden-row : RowAt (λ c. lacks (L confidentiality) (d .label confidentiality) c || lacks (d .label integrity) (L integrity) c) g (hiddenRow under own)
-  hidden-row =
-      row-either g _ _ _ _ (row-lacks g _ _ _ _ (a .row confidentiality) (b .row confidentiality)) (row-lacks g _ _ _ _ (b .row integrity) (a .row integrity))
+  -- those that see L and not the grant's label
+  unseen-row : RowAt (lacks (L confidentiality) (d .label confidentiality)) g (eachWord lacksWord (under .see) (own .see))
+  unseen-row = row-lacks g _ _ _ _ (a .row confidentiality) (b .row confidentiality)
 
-  -- all of them, where none changes the grant's label
-  pub bars-hidden : (r : Row) → r ≡ hiddenRow under own → emptyRow (own .change) ≡ true → RowAt (barsCounting L d) g r
+  -- are all that bar the grant where none changes its label
+  pub bars-unseen : (r : Row) → r ≡ eachWord lacksWord (under .see) (own .see) → emptyRow (own .change) ≡ true → RowAt (barsCounting L d) g r
   unfolding barsCounting
-  bars-hidden r e none = rw e (row-cong g _ _ _ (λ c low high. rw (row-empty (d .label integrity) g (own .change) (b .row integrity) none c low high) (sym (or-false _))) hidden-row)
+  bars-unseen r e none =
+      rw e (row-cong g _ _ _ (λ c low high.
+      rw (row-empty (d .label integrity) g (own .change) (b .row integrity) none c low high) (sym (or-false _ ∙ or-false _))) unseen-row)
 
-  -- with those that show that it is not spoken
-  pub bars-row : (q : Rows) (r : Row) → RowsAt (d .q) g q → r ≡ eachWord bitOr (hiddenRow under own) (eachWord lacksWord (own .change) (eachWord bitAnd (q .see) (q .change))) → RowAt (barsCounting L d) g r
+  -- with those that change it, and not both L and the voice of q
+  pub bars-row : (q : Rows) (r : Row) → RowsAt (d .q) g q
+      → r ≡ eachWord bitOr (eachWord lacksWord (under .see) (own .see)) (eachWord lacksWord (own .change) (eachWord bitAnd (under .change) (eachWord bitAnd (q .see) (q .change))))
+      → RowAt (barsCounting L d) g r
   unfolding barsCounting voice
-  bars-row q r h e = rw e (row-either g _ _ _ _ hidden-row (row-lacks g _ _ _ _ (b .row integrity) (row-both g _ _ _ _ (h .row confidentiality) (h .row integrity))))
+  bars-row q r h e =
+      rw e (row-cong g _ _ _ (λ c _ _. both-or-either (lacks (L confidentiality) (d .label confidentiality) c) (d .label integrity c) (L integrity c) (d .q confidentiality c && d .q integrity c))
+      (row-either g _ _ _ _ unseen-row (row-lacks g _ _ _ _ (b .row integrity) (row-both g _ _ _ _ (a .row integrity) (row-both g _ _ _ _ (h .row confidentiality) (h .row integrity))))))
+    where
+      both-or-either : (u d l v : Bool) → (u || (d && not (l && v))) ≡ ((u || (d && not l)) || (d && not v))
+      both-or-either true d l v = refl
+      both-or-either false false l v = refl
+      both-or-either false true false v = refl
+      both-or-either false true true v = refl
 
 -- the mask leaves the coalitions of n names, and where there are none it is not needed
 module _ (n g : ℕ) (f : ℕ → Bool) (x : Row) (r : RowAt f g x) where

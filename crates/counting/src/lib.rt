@@ -18,15 +18,14 @@ fn barring(ledger: &[u8], k: usize, label: &[u8], g: u64) -> Row
     let said = words::hold(ledger, ledgers::label_place(k), g);
     let own = said.rows;
     let unseen = words::without(under.see, own.see);
-    let unchanged = words::without(own.change, under.change);
-    let hidden = words::either(unseen, unchanged);
     if words::empty(own.change) {
-        return hidden;
+        return unseen;
     }
     let held = words::hold(ledger, ledgers::q_place(k), g);
     let q = held.rows;
     let voice = words::both(q.see, q.change);
-    words::either(hidden, words::without(own.change, voice))
+    let allowed = words::both(under.change, voice);
+    words::either(unseen, words::without(own.change, allowed))
 }
 
 // And those that are coalitions of n names. The mask is needed only where there are any.

@@ -1,16 +1,17 @@
 -- Which grants count, on any bytes (document 01, "Grants that count"). Assumes nothing: these are definitions.
 use mathlib.Core.Path.{_≡_}
-use mathlib.Core.Bool.{Bool, false, cond, _&&_, _||_}
+use mathlib.Core.Bool.{Bool, true, false, cond, _&&_, _||_}
 use mathlib.Core.List.{List}
-use Prim.Native.Nat.{ℕ, _-_, _^_, _<_}
+use Prim.Native.Nat.{ℕ, _-_, _^_, _≤_, _<_}
 use lib.Dec.{ltb}
 use lib.ListN.{drop}
 use Rattle.model.specs.Sides.{confidentiality, integrity}
 use Rattle.model.specs.Coalitions.{member, Marks, packed}
-use Rattle.model.specs.Grants.{Grant, GrantMarks, voice, under, countsUnder}
+use Rattle.model.specs.Terms.{NamesBelow, held}
+use Rattle.model.specs.Grants.{Grant, GrantMarks, marksOf, voice, under, countsUnder}
 use Rattle.words.specs.AnyBytes.{termIn}
 use Rattle.words.specs.FourWords.{lacks}
-use Rattle.words.specs.Evaluation.{jobOf}
+use Rattle.words.specs.Evaluation.{jobOf, ClearTo}
 use Rattle.ledgers.specs.Places.{pPlace, qPlace, labelPlace}
 use Rattle.counting.specs.declared.Known.{Known}
 
@@ -27,6 +28,10 @@ unfoldable pub barsCounting : Marks → GrantMarks → ℕ → Bool
 barsCounting L g c =
     (lacks (L confidentiality) (g .label confidentiality) c || lacks (g .label integrity) (L integrity) c)
     || lacks (g .label integrity) (voice (g .q) integrity) c
+
+-- and of grant k under the label
+abbrev pub barsAt : List ℕ → List ℕ → ℕ → ℕ → Bool
+barsAt ledger label k = barsCounting (held (termIn label)) (marksOf (grantIn ledger k))
 
 -- grant k counts under the label
 abbrev pub countsAt : List ℕ → ℕ → List ℕ → ℕ → Bool
@@ -54,3 +59,18 @@ abbrev pub judgedAt : Bool → ℕ → Known → Known
 judgedAt counts k known = cond (member k (known .possible) && member k (known .unjudged))
     (record { unjudged = known .unjudged - 2 ^ k; possible = cond counts (known .possible) (known .possible - 2 ^ k) })
     known
+
+-- r is above each name of the term that the bytes from a place on stand for, and at least as much as `least`
+pub record NamesAt (bytes : List ℕ) (at least r : ℕ) : Type 0 where
+  pub most : least ≤ r
+  pub below : NamesBelow r (termIn (drop at bytes))
+
+-- Asked of the coalitions of r names, no more than n, grant k counts under the label exactly if it does asked of those of n.
+pub record NeededOf (ledger : List ℕ) (n k : ℕ) (label : List ℕ) (r : ℕ) : Type 0 where
+  pub few : r ≤ n
+  pub alike : countsAt ledger r label k ≡ countsAt ledger n label k
+
+-- Where r is true no coalition of n names in the rows from one to another bars grant k, and where it is false one does, so that the grant doesn't count.
+pub record ClearedTo (ledger : List ℕ) (n k : ℕ) (label : List ℕ) (from to : ℕ) (r : Bool) : Type 0 where
+  pub clear : r ≡ true → ClearTo (jobOf n) (barsAt ledger label k) from → ClearTo (jobOf n) (barsAt ledger label k) to
+  pub barred : r ≡ false → countsAt ledger n label k ≡ false

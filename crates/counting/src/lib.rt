@@ -1,17 +1,15 @@
 // Which grants count under a label (document 01, "Grants that count").
 use words::Row;
 ghost use mathlib.Core.Path.{_≡_};
+ghost use Prim.Native.Nat.{_≤_, _<_};
 ghost use Rattle.model.specs.Coalitions.{member, mark};
-ghost use Rattle.model.specs.Terms.{held};
-ghost use Rattle.model.specs.Grants.{marksOf};
-ghost use Rattle.words.specs.AnyBytes.{termIn};
 ghost use Rattle.words.specs.FourWords.{RowAt};
-ghost use Rattle.counting.specs.Counted.{grantIn, barsCounting, countsAt, countedIn, nothingKnown, judgedAt};
+ghost use Rattle.counting.specs.Counted.{barsAt, countsAt, countedIn, nothingKnown, judgedAt, NamesAt, NeededOf, ClearedTo};
 
 // Those of row g that bar grant k from counting under the label: they see the label and not the grant's, or change the grant's and not the label, or
 // change it and don't hold the voice of q. Where none changes the grant's label there is no need of q.
 fn barring(ledger: &[u8], k: usize, label: &[u8], g: u64) -> Row
-    ensures { λ r. ⌜ RowAt (barsCounting (held (termIn (now (label .entry)))) (marksOf (grantIn (now (ledger .entry)) k))) g r ⌝ }
+    ensures { λ r. ⌜ RowAt (barsAt (now (ledger .entry)) (now (label .entry)) k) g r ⌝ }
 {
     let asked = words::hold(label, 0, g);
     let under = asked.rows;
@@ -30,7 +28,7 @@ fn barring(ledger: &[u8], k: usize, label: &[u8], g: u64) -> Row
 
 // And those that are coalitions of n names. The mask is needed only where there are any.
 fn barring_of(ledger: &[u8], n: u64, k: usize, label: &[u8], g: u64) -> Row
-    ensures { λ r. ⌜ RowAt (mark n (barsCounting (held (termIn (now (label .entry)))) (marksOf (grantIn (now (ledger .entry)) k)))) g r ⌝ }
+    ensures { λ r. ⌜ RowAt (mark n (barsAt (now (ledger .entry)) (now (label .entry)) k)) g r ⌝ }
 {
     let bars = barring(ledger, k, label, g);
     if words::empty(bars) {
@@ -39,13 +37,59 @@ fn barring_of(ledger: &[u8], n: u64, k: usize, label: &[u8], g: u64) -> Row
     words::both(words::low_row(n, g), bars)
 }
 
-// Grant k counts under the label: it is visible and spoken.
-pub fn counts(ledger: &[u8], n: u64, k: usize, label: &[u8]) -> bool
-    ensures { λ r. ⌜ r ≡ countsAt (now (ledger .entry)) n (now (label .entry)) k ⌝ }
+// A number above each name of the term that the bytes from `at` on stand for, and at least `least`.
+fn names_at(codes: &[u8], at: usize, least: u64) -> u64
+    ensures { λ r. ⌜ NamesAt (now (codes .entry)) at least r ⌝ }
 {
-    let rows = words::row_count(n);
-    let mut g: u64 = 0;
-    while g < rows {
+    let held = words::hold(codes, at, 0);
+    let end = held.next;
+    let mut most = least;
+    let mut i = at;
+    while i < end {
+        if codes.len() <= i {
+            return most;
+        }
+        most = above_name(codes[i], most);
+        i += 1;
+    }
+    most
+}
+
+// The number, or one more than the name that the code is, if that is more.
+fn above_name(code: u8, most: u64) -> u64
+    ensures { λ r. ⌜ (most ≤ r) × (code < 12 → code < r) ⌝ }
+{
+    let name = code as u64;
+    if 12 <= name {
+        return most;
+    }
+    if name < most {
+        return most;
+    }
+    name + 1
+}
+
+// How many of the n names there is need to ask when grant k is judged: those up to the highest of its terms and of the label, and at least eight, which have
+// one row. The coalitions with further names only repeat what those without them say.
+fn names_needed(ledger: &[u8], n: u64, k: usize, label: &[u8]) -> u64
+    ensures { λ r. ⌜ NeededOf (now (ledger .entry)) n k (now (label .entry)) r ⌝ }
+{
+    let asked = names_at(label, 0, 8);
+    let own = names_at(ledger, ledgers::label_place(k), asked);
+    let all = names_at(ledger, ledgers::q_place(k), own);
+    if n <= all {
+        return n;
+    }
+    all
+}
+
+// No coalition of n names in the rows from one to another bars grant k.
+fn rows_clear(ledger: &[u8], n: u64, k: usize, label: &[u8], from: u64, to: u64) -> bool
+    requires { ⌜ to ≤ 16 ⌝ }
+    ensures { λ r. ⌜ ClearedTo (now (ledger .entry)) n k (now (label .entry)) from to r ⌝ }
+{
+    let mut g = from;
+    while g < to {
         let clear = words::empty(barring_of(ledger, n, k, label, g));
         if !clear {
             return false;
@@ -53,6 +97,21 @@ pub fn counts(ledger: &[u8], n: u64, k: usize, label: &[u8]) -> bool
         g += 1;
     }
     true
+}
+
+// Grant k counts under the label: it is visible and spoken. The first row tells most grants that don't.
+pub fn counts(ledger: &[u8], n: u64, k: usize, label: &[u8]) -> bool
+    ensures { λ r. ⌜ r ≡ countsAt (now (ledger .entry)) n (now (label .entry)) k ⌝ }
+{
+    let first = rows_clear(ledger, n, k, label, 0, 1);
+    if !first {
+        return false;
+    }
+    if n <= 8 {
+        return true;
+    }
+    let names = names_needed(ledger, n, k, label);
+    rows_clear(ledger, names, k, label, 1, words::row_count(names))
 }
 
 // Bit k is set exactly if grant k counts under the label. No ledger has more grants than 64.

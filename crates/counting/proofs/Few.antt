@@ -131,7 +131,7 @@ clear-fewer m n f g h clear c l = elim (decLt c (2 ^ m)) [
 -- ---- all rows looked at
 
 module _ (ledger : List ℕ) (k : ℕ) (label : List ℕ) where
-  -- no coalition of the job (barsAt ledger label k) the grant
+  -- no coalition of the job bars the grant
   pub counts-clear : (n g : ℕ) → g ≡ rowCount n → ClearTo (jobOf n) (barsAt ledger label k) g → true ≡ countsAt ledger n label k
   unfolding countsUnder
   counts-clear n g e clear =

@@ -1,6 +1,6 @@
 -- Rows of the coalitions that bar a grant from counting. Assumes nothing.
 use mathlib.Core.Path.{_≡_, refl, sym, ap, _∙_}
-use mathlib.Core.Bool.{Bool, true, false, not, _&&_, _||_, or-false}
+use mathlib.Core.Bool.{Bool, true, false, not, _&&_, _||_, and-false, or-false}
 use Prim.Native.Nat.{ℕ, _^_, _<_}
 use native.Mathlib.Omega.{arith}
 use lib.Bits.{bitAnd, bitOr}
@@ -49,10 +49,6 @@ module _ (n g : ℕ) (f : ℕ → Bool) (x : Row) (r : RowAt f g x) where
   pub marked-none : emptyRow x ≡ true → RowAt (mark n f) g x
   unfolding mark
   marked-none e = row-cong g f (mark n f) x (λ c low high. let z = row-empty f g x r e c low high in rw z (sym (and-false (ltb c (2 ^ n))))) r
-    where
-      and-false : (b : Bool) → (b && false) ≡ false
-      and-false true = refl
-      and-false false = refl
 
   pub marked-row : (mask y : Row) → RowAt (λ c. ltb c (2 ^ n)) g mask → y ≡ eachWord bitAnd mask x → RowAt (mark n f) g y
   unfolding mark

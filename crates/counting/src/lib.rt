@@ -69,8 +69,8 @@ fn above_name(code: u8, most: u64) -> u64
     name + 1
 }
 
-// How many of the n names there is need to ask when grant k is judged: those up to the highest of its terms and of the label, and at least eight, which have
-// one row. The coalitions with further names only repeat what those without them say.
+// How many of the n names there is need to ask when grant k is judged: those up to the highest of the label, of the grant's label and of its q, and at least
+// eight, which have one row. The coalitions with further names only repeat what those without them say.
 fn names_needed(ledger: &[u8], n: u64, k: usize, label: &[u8]) -> u64
     ensures { λ r. ⌜ NeededOf (now (ledger .entry)) n k (now (label .entry)) r ⌝ }
 {

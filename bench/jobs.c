@@ -333,5 +333,5 @@ void make_short_form(struct call *call, struct job job, unsigned seed)
     shuffle(&source, names, 0, job.n);
     call->operation = SHORT_FORM;
     call->p = mixed_tree(&source, names, job.n, job.codes);
-    call->buffer_length = SHORT_FORM_LEAST;
+    call->buffer_length = BUFFER_ROOM; /* enough for earlier archives, which ask for more, too */
 }

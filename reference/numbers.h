@@ -1,5 +1,5 @@
 /*
- * The numbers of document 01 for the reference and the tests: written down a second time, not taken from
+ * The numbers of documents 01 and 02 for the reference and the tests: written down a second time, not taken from
  * rights.h. tests/header.c asserts that the two agree.
  */
 #ifndef NUMBERS_H
@@ -13,7 +13,7 @@ enum {
     GRANTS = 64, /* of a ledger, at most */
     LEDGER_MOST = 33280,
     EXTRACT_SIZE = 1024,
-    SHORT_FORM_LEAST = 16388, /* the buffer */
+    SHORT_FORM_LEAST = 3700, /* the buffer */
     STEP = 136,
     STEPS = 64, /* of a derivation, at most */
     DERIVATION_MOST = 8704

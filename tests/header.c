@@ -16,6 +16,9 @@ SAME(RIGHTS_VERSION, PC_VERSION);
 
 enum { COALITIONS = 1 << RIGHTS_NAMES_MAX };
 
+/* as many coalitions of twelve names have six members, twelve over six; no more can lie none inside another */
+enum { LARGEST_LAYER = 12 * 11 * 10 * 9 * 8 * 7 / (6 * 5 * 4 * 3 * 2) };
+
 SAME(RIGHTS_NAMES_MAX, NAMES);
 SAME(RIGHTS_TERM_MAX, CODES);
 SAME(RIGHTS_BLOCK_SIZE, BLOCK);
@@ -33,7 +36,7 @@ SAME(RIGHTS_STEP_SIZE, 6 + 2 + 2 * RIGHTS_TERM_MAX);
 SAME(RIGHTS_DERIVATION_MAX, RIGHTS_STEP_SIZE * RIGHTS_STEPS_MAX);
 /* on each side a bit for each coalition; on each side two bytes for the count and for each coalition */
 SAME(RIGHTS_EXTRACT_SIZE, 2 * COALITIONS / 8);
-SAME(RIGHTS_SHORT_FORM_MIN, 2 * (2 + 2 * COALITIONS));
+SAME(RIGHTS_SHORT_FORM_MIN, 2 * (2 + 2 * LARGEST_LAYER));
 
 /* the tests have room for what is refused as too long */
 MORE(TERM_ROOM, RIGHTS_TERM_MAX);

@@ -765,7 +765,7 @@ static uint64_t random_quoted_step(struct source *s, const struct derivation *d)
 static void random_short_form(struct source *s, struct call *call)
 {
     static const uint64_t bad_names[] = {0, 13, 255, 258, 65538, 0x100000002, 0x8000000000000001, UINT64_MAX};
-    static const uint16_t bad_lengths[] = {0, 1, 4, 1024, 8194, 16384, 16387};
+    static const uint16_t bad_lengths[] = {0, 1, 4, 924, 1024, 1850, 3698, 3699};
     unsigned n = random_names(s);
     call->number = n;
     call->p = one_in(s, 3) ? many_ways(s, n) : random_term(s, n, random_size(s));
@@ -780,7 +780,7 @@ static void random_short_form(struct source *s, struct call *call)
 
 static void random_extract(struct source *s, struct call *call)
 {
-    static const uint16_t bad_lengths[] = {0, 1, 512, 1023, 1025, 2048, 16388};
+    static const uint16_t bad_lengths[] = {0, 1, 512, 1023, 1025, 2048, 3700};
     call->buffer_length = EXTRACT_SIZE;
     if (one_in(s, 16))
         call->buffer_length = bad_lengths[below(s, sizeof bad_lengths / sizeof *bad_lengths)];

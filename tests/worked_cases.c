@@ -1,5 +1,6 @@
 /*
- * The worked cases A to L of document 01, on the reference and on the library.
+ * The worked cases A to L of document 01, and the short form's buffer by K12 of document 02, on the reference and on
+ * the library.
  */
 #include "calls.h"
 
@@ -13,7 +14,7 @@ static void expect(const struct engine *engine, const char *letter, bool as_writ
 {
     if (as_written)
         return;
-    printf("case %s of document 01 differs (%s)\n", letter, engine->name);
+    printf("case %s differs (%s)\n", letter, engine->name);
     failures++;
 }
 
@@ -176,6 +177,62 @@ static void case_of_refusals(const struct engine *e)
     expect(e, "L", asked_of_length(e, 33792) == refused(10));
 }
 
+/* ---- K12: a buffer of 3,700 bytes ---- */
+
+/* What a short form of the term gives on a buffer of this length, of which a refused call keeps every byte. */
+static uint32_t short_form_on(const struct engine *e, uint64_t n, const char *term, size_t length)
+{
+    static uint8_t buffer[SHORT_FORM_LEAST], before[SHORT_FORM_LEAST];
+    struct term t = codes(term);
+    memset(buffer, 0xAA, sizeof buffer);
+    memset(before, 0xAA, sizeof before);
+    uint32_t number = e->short_form(n, t.codes, t.length, buffer, length);
+    if (number / PER_KIND == REFUSED)
+        expect(e, "K12", memcmp(buffer, before, sizeof buffer) == 0);
+    return number;
+}
+
+static void case_of_buffer(const struct engine *e)
+{
+    for (unsigned n = 1; n <= NAMES; n++) {
+        expect(e, "K12", short_form_on(e, n, "21", SHORT_FORM_LEAST) == 8);
+        expect(e, "K12", short_form_on(e, n, "21", SHORT_FORM_LEAST - 1) == refused(8));
+        expect(e, "K12", short_form_on(e, n, "FF", SHORT_FORM_LEAST - 1) == refused(8));
+    }
+    expect(e, "K12", short_form_on(e, 0, "21", SHORT_FORM_LEAST - 1) == refused(7));
+    expect(e, "K12", short_form_on(e, 13, "21", SHORT_FORM_LEAST - 1) == refused(7));
+}
+
+static unsigned members(unsigned coalition)
+{
+    unsigned count = 0;
+    for (; coalition > 0; coalition /= 2)
+        count += coalition % 2;
+    return count;
+}
+
+/* Two of the first six names and two of the other six: 225 minimal coalitions on each side, by 63 codes. */
+static void case_of_many_coalitions(const struct engine *e)
+{
+    struct term t = codes("30 31 31 30 31 31 00 01 02 31 31 03 04 05 31 30 00 01 30 02 31 00 01 31 30 03 04 30 05 31 03 04 "
+                          "31 31 30 31 31 06 07 08 31 31 09 0A 0B 31 30 06 07 30 08 31 06 07 31 30 09 0A 30 0B 31 09 0A");
+    static uint8_t buffer[SHORT_FORM_LEAST], after[SHORT_FORM_LEAST];
+    size_t end = 0;
+    memset(buffer, 0xAA, sizeof buffer);
+    memset(after, 0xAA, sizeof after);
+    for (unsigned side = SEE; side <= CHANGE; side++) {
+        after[end++] = 0;
+        after[end++] = 225;
+        for (unsigned c = 0; c < 1u << NAMES; c++)
+            if (members(c % 64) == 2 && members(c / 64) == 2) {
+                after[end++] = (uint8_t)(c / 256);
+                after[end++] = (uint8_t)(c % 256);
+            }
+    }
+    expect(e, "K12", e->short_form(NAMES, t.codes, t.length, buffer, sizeof buffer) == end);
+    expect(e, "K12", memcmp(buffer, after, sizeof buffer) == 0);
+}
+
 static void all_cases(const struct engine *e)
 {
     checks_of_the_ledgers(e);
@@ -184,6 +241,8 @@ static void all_cases(const struct engine *e)
     case_of_extract(e);
     cases_of_short_form(e);
     case_of_refusals(e);
+    case_of_buffer(e);
+    case_of_many_coalitions(e);
 }
 
 int main(void)
@@ -192,6 +251,6 @@ int main(void)
     all_cases(&library_engine);
     if (failures)
         return 1;
-    puts("worked cases A to L: same, by the reference and by the library");
+    puts("worked cases A to L and K12: same, by the reference and by the library");
     return 0;
 }

@@ -91,7 +91,7 @@ fn is_written(buffer: &[u8], expected: &[u8], b: u8) -> bool
 
 // With n 2, the term's short form is the expected bytes.
 fn has_short_form(term: &[u8], expected: &[u8]) -> bool {
-    let mut buffer = [BEFORE; 16400];
+    let mut buffer = [BEFORE; 3712];
     let number = rights::rights_short_form(2, term, &mut buffer);
     if number as usize != expected.len() {
         return false;
@@ -99,12 +99,30 @@ fn has_short_form(term: &[u8], expected: &[u8]) -> bool {
     is_written(&buffer, expected, BEFORE)
 }
 
-fn case_k() -> bool {
-    if has_short_form(&[0x31, 0x00, 0x30, 0x00, 0x01], &[0, 1, 0, 1, 0, 1, 0, 1]) {
-        has_short_form(&[0x20], &[0, 0, 0, 0])
-    } else {
-        false
+// The buffer of document 02, K12: the room for every short form of twelve names; with one byte less even one name gets 8.
+fn has_room() -> bool {
+    let mut enough = [BEFORE; 3700];
+    let mut less = [BEFORE; 3699];
+    if sperner::room(12) != 3700 {
+        return false;
     }
+    if rights::rights_short_form(12, &[0x21], &mut enough) != 8 {
+        return false;
+    }
+    if rights::rights_short_form(1, &[0x21], &mut less) != REFUSED + 8 {
+        return false;
+    }
+    is_filled(&less, BEFORE)
+}
+
+fn case_k() -> bool {
+    if !has_short_form(&[0x31, 0x00, 0x30, 0x00, 0x01], &[0, 1, 0, 1, 0, 1, 0, 1]) {
+        return false;
+    }
+    if !has_short_form(&[0x20], &[0, 0, 0, 0]) {
+        return false;
+    }
+    has_room()
 }
 
 // Case L.
@@ -163,7 +181,7 @@ fn flows_to_refuses(term: &[u8], refusal: u8) -> bool {
 fn others_refuse(term: &[u8], refusal: u8) -> bool {
     let ledger = plain();
     let number = REFUSED + refusal as u32;
-    let mut buffer = [BEFORE; 16388];
+    let mut buffer = [BEFORE; 3700];
     let mut table = [BEFORE; 1024];
     if rights::rights_short_form(2, term, &mut buffer) != number {
         return false;

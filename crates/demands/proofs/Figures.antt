@@ -24,7 +24,7 @@ use Rattle.model.specs.Derivations.{stepAt, Rule, ruleOf, usesOf, stepForm, rea
 use Rattle.model.proofs.Truth.{and-right, cond-case}
 use Rattle.model.proofs.Judge.{judge-no, judge-case}
 use Rattle.model.proofs.Accepted.{names-range}
-use Rattle.model.proofs.Listed.{written-few}
+use Rattle.sperner.proofs.Forms.{written-few}
 use Rattle.demands.specs.Numbers.{Range, _to_, OneOf, questionRefusals, extractRefusals, shortFormRefusals, derivationRefusals, stepRefusals, AnswersQuestion, AnswersExtract, AnswersShortForm, AnswersDerivation, QuestionsAnswered, ExtractsAnswered, ShortFormsAnswered, DerivationsAnswered, ComesBack, AnswersComeBack}
 use Rattle.demands.proofs.Asking.{judged}
 use Rattle.demands.proofs.Refusing.{Only, only-require, only-then, only-term, only-part, only-ledger, given-case, only-under, only-book}
@@ -107,7 +107,7 @@ extract-small (RefusedAt k r) h = absurd h
 
 -- ---- short forms
 front-answered : (x : Reading (List ℕ)) (buffer : List ℕ) → Only (OneOf shortFormRefusals) x
-    → ((k : ℕ) → writtenFront x buffer .answer ≡ Written k → k ≤ 16388) → AnswersShortForm (writtenFront x buffer .answer)
+    → ((k : ℕ) → writtenFront x buffer .answer ≡ Written k → k ≤ 3700) → AnswersShortForm (writtenFront x buffer .answer)
 front-answered (accepted bytes) buffer o h = h (length bytes) refl
 front-answered (refused r) buffer o h = o
 
@@ -116,7 +116,7 @@ unfolding shorten shortFormOf
 short-forms-answered n term buffer =
     front-answered (shortFormOf n term (length buffer)) buffer
     (only-require (OneOf shortFormRefusals) (leb 1 n && leb n 12) 7 _ (inl (omega arith, omega arith))
-    (only-require (OneOf shortFormRefusals) (leb 16388 (length buffer)) 8 _ (inl (omega arith, omega arith))
+    (only-require (OneOf shortFormRefusals) (leb 3700 (length buffer)) 8 _ (inl (omega arith, omega arith))
     (only-then (OneOf shortFormRefusals) (readTerm n term) _ (only-term (OneOf shortFormRefusals) n term (λ r a b. inr (inl (a, b)))) (λ t. tt))))
     (written-few n term buffer)
 

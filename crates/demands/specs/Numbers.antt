@@ -87,11 +87,11 @@ AnswersExtract (Written k) = ⊥
 AnswersExtract (Refused r) = OneOf extractRefusals r
 AnswersExtract (RefusedAt k r) = ⊥
 
--- Short form: written, of at most 16,388 bytes, or refused.
+-- Short form: written, of at most 3,700 bytes, or refused.
 abbrev pub AnswersShortForm : Answer → Type 0
 AnswersShortForm Yes = ⊥
 AnswersShortForm (No s c) = ⊥
-AnswersShortForm (Written k) = k ≤ 16388
+AnswersShortForm (Written k) = k ≤ 3700
 AnswersShortForm (Refused r) = OneOf shortFormRefusals r
 AnswersShortForm (RefusedAt k r) = ⊥
 

@@ -11,7 +11,7 @@ pub fn an_extract_is_written_or_gets_a_refusal_of_its_list()
     ensures { λ _. ⌜ ExtractsAnswered ⌝ }
 {}
 
-// A short form: written, of at most 16,388 bytes, or 7, 8, 1 to 4.
+// A short form: written, of at most 3,700 bytes, or 7, 8, 1 to 4.
 pub fn a_short_form_is_written_or_gets_a_refusal_of_its_list()
     ensures { λ _. ⌜ ShortFormsAnswered ⌝ }
 {}

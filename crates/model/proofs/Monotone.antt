@@ -4,14 +4,15 @@ use mathlib.Core.Path.{_≡_, refl, sym, ap, _∙_}
 use mathlib.Core.Logic.{_↔_}
 use Prim.Native.Nat.{ℕ, zero, suc, _-_, _/_, _%_, _^_, _≤_, _<_}
 use native.Mathlib.Nat.{pow-suc}
-use native.Mathlib.Decide.{ℕ-discrete}
+use native.Mathlib.Decide.{ℕ-discrete, decLt}
 use native.Mathlib.Omega.{arith}
 use mathlib.Core.Bool.{Bool, true, false, not, _&&_}
 use lib.Dec.{eqb}
+use lib.Pow.{pow-mono}
 use borrow.Author.Tests.{eqb-true, eqb-false, ne-eqb, not-true}
 use Rattle.model.specs.Sides.{Side, confidentiality, integrity}
 use Rattle.model.specs.Coalitions.{member, implies, every, Lowest, nowhere, at, lowest, properSubset}
-use Rattle.model.specs.Terms.{Term, name, top, bottom, conj, disj, project, NamesBelow, held}
+use Rattle.model.specs.Terms.{Term, name, top, bottom, conj, disj, project, held}
 use Rattle.model.specs.ShortForms.{minimal}
 use Rattle.model.proofs.Truth.{clash, true-of, false-of, and-intro, and-left, and-right, or-left, or-right, or-elim, bool-ext, implies-elim, implies-intro}
 use Rattle.model.proofs.Search.{Says, every-elim, every-intro, lowest-says}
@@ -20,25 +21,6 @@ use Rattle.model.proofs.Packed.{member-zero, member-suc, bits-ext}
 -- of n names, every member of b is one of c
 abbrev pub Subset : ℕ → ℕ → ℕ → Type 0
 Subset n b c = (i : ℕ) → i < n → member i b ≡ true → member i c ≡ true
-
--- on the coalitions of n names, what f has it has with more members too
-abbrev pub Monotone : ℕ → (ℕ → Bool) → Type 0
-Monotone n f = (b c : ℕ) → Subset n b c → f b ≡ true → f c ≡ true
-
--- a term whose names are below n is held by every coalition that has the members of one that holds it
-pub held-monotone : (n : ℕ) (t : Term) (s : Side) → NamesBelow n t → Monotone n (held t s)
-unfolding held NamesBelow
-held-monotone n (name i) s w b c h e = h i (w .1) e
-held-monotone n top s w b c h e = e
-held-monotone n bottom s w b c h e = e
-held-monotone n (conj p q) s w b c h e =
-    and-intro (held-monotone n p s (w .0) b c h (and-left (held p s b) (held q s b) e)) (held-monotone n q s (w .1) b c h (and-right (held p s b) (held q s b) e))
-held-monotone n (disj p q) s w b c h e =
-    or-elim (held p s b) (held q s b) (λ l. or-left (held q s c) (held-monotone n p s (w .0) b c h l)) (λ r. or-right (held p s c) (held-monotone n q s (w .1) b c h r)) e
-held-monotone n (project confidentiality p) confidentiality w b c h e = held-monotone n p confidentiality w b c h e
-held-monotone n (project confidentiality p) integrity w b c h e = e
-held-monotone n (project integrity p) confidentiality w b c h e = e
-held-monotone n (project integrity p) integrity w b c h e = held-monotone n p integrity w b c h e
 
 -- ---- one member less
 
@@ -79,6 +61,30 @@ less-subset n i c e j l m = elim (ℕ-discrete j i) [
   | yes q ↦ rw q e
   | no d ↦ sym (less-keeps i j c e d) ∙ m
 ]
+
+-- ---- terms
+
+-- on the coalitions of n names, what f has it has with more members too
+abbrev pub Monotone : ℕ → (ℕ → Bool) → Type 0
+Monotone n f = (b c : ℕ) → b < 2 ^ n → Subset n b c → f b ≡ true → f c ≡ true
+
+-- A term is held by every coalition that has the members of one that holds it. Of names from n up a coalition of n names has none.
+pub held-monotone : (n : ℕ) (t : Term) (s : Side) → Monotone n (held t s)
+unfolding held
+held-monotone n (name i) s b c l h e = elim (decLt i n) [
+  | yes m ↦ h i m e
+  | no m ↦ (let few : n ≤ i = omega arith in absurd (clash e (member-past i b (omega (arith, pow-mono few)))))
+]
+held-monotone n top s b c l h e = e
+held-monotone n bottom s b c l h e = e
+held-monotone n (conj p q) s b c l h e =
+    and-intro (held-monotone n p s b c l h (and-left (held p s b) (held q s b) e)) (held-monotone n q s b c l h (and-right (held p s b) (held q s b) e))
+held-monotone n (disj p q) s b c l h e =
+    or-elim (held p s b) (held q s b) (λ e. or-left (held q s c) (held-monotone n p s b c l h e)) (λ e. or-right (held p s c) (held-monotone n q s b c l h e)) e
+held-monotone n (project confidentiality p) confidentiality b c l h e = held-monotone n p confidentiality b c l h e
+held-monotone n (project confidentiality p) integrity b c l h e = e
+held-monotone n (project integrity p) confidentiality b c l h e = e
+held-monotone n (project integrity p) integrity b c l h e = held-monotone n p integrity b c l h e
 
 -- ---- proper subsets
 
@@ -150,7 +156,7 @@ module _ (n : ℕ) (f : ℕ → Bool) (c : ℕ) (mono : Monotone n f) (l : c < 2
   smallest none = every-intro alone (2 ^ n) (λ b h. ap not (false-of (properSubset n b c && f b) (λ t.
       let s = proper-says n b c .0 (and-left (properSubset n b c) (f b) t) in
       let k = proper-lacks n b c h l (s .0) (s .1) in
-      clash (mono b (c - 2 ^ (k .lost)) (k .within) (and-right (properSubset n b c) (f b) t)) (none (k .lost) (k .below) (k .among)))))
+      clash (mono b (c - 2 ^ (k .lost)) h (k .within) (and-right (properSubset n b c) (f b) t)) (none (k .lost) (k .below) (k .among)))))
 
   -- Of a monotone f, a coalition is minimal exactly if f has it and has none with one member less.
   pub minimal-says : minimal n f c ≡ true ↔ ((f c ≡ true) × NoneLess n f c)

@@ -1,20 +1,23 @@
--- A coalition is listed if every member is needed: for terms, which are monotone, these are the minimal coalitions. Assumes nothing.
+-- A coalition is listed if every member is needed: for terms, which are monotone, these are the minimal coalitions, and there is room for them (document 02,
+-- K12). Assumes nothing.
 use mathlib.Core.Path.{_≡_, sym, ap, _∙_}
 use mathlib.Core.Bool.{Bool, true, false, not}
 use mathlib.Core.List.{List}
 use mathlib.Core.Logic.{_↔_}
 use Prim.Native.Nat.{ℕ, _-_, _*_, _/_, _%_, _^_, _≤_, _<_}
 use native.Mathlib.Omega.{arith}
+use lib.ListN.{length}
 use borrow.Author.Tests.{eq-eqb, ne-eqb, not-true}
 use Rattle.model.specs.Sides.{Side}
 use Rattle.model.specs.Coalitions.{member, implies, every}
-use Rattle.model.specs.Terms.{Term, NamesBelow, held}
+use Rattle.model.specs.Terms.{Term, held}
 use Rattle.model.specs.ShortForms.{minimal, listed}
 use Rattle.model.proofs.Truth.{and-intro, and-left, and-right, implies-elim, implies-intro, bool-ext}
 use Rattle.model.proofs.Search.{every-elim, every-intro}
 use Rattle.model.proofs.Monotone.{NoneLess, member-le, held-monotone, minimal-says}
 use Rattle.model.proofs.Listed.{those-cong}
 use Rattle.model.proofs.Packed.{member-packed}
+use Rattle.sperner.proofs.Forms.{listed-few}
 use Rattle.words.specs.Evaluation.{wordCount, Tabled}
 use Rattle.words.proofs.Names.{words-enough, shifted}
 use Rattle.short_forms.specs.Listings.{marked, irredundant, listing}
@@ -55,17 +58,22 @@ tabled-marks s words n t h done c l =
     ∙ ap (held t s) (omega arith)
 
 -- the table's listing is the term's
-pub listing-listed : (s : Side) (words : List ℕ) (n : ℕ) (t : Term) → n ≤ 12 → NamesBelow n t → Tabled t s (wordCount n) words
+pub listing-listed : (s : Side) (words : List ℕ) (n : ℕ) (t : Term) → n ≤ 12 → Tabled t s (wordCount n) words
     → listing n (irredundant n (marked words)) ≡ listed n (held t s)
 unfolding listing listed
-listing-listed s words n t h b done = rw (those-cong (irredundant n (marked words)) (minimal n (held t s)) 0 (2 ^ n) (λ c z l. same c (omega arith)))
+listing-listed s words n t h done = rw (those-cong (irredundant n (marked words)) (minimal n (held t s)) 0 (2 ^ n) (λ c z l. same c (omega arith)))
   where
     marks : (c : ℕ) → c < 2 ^ n → marked words c ≡ held t s c
     marks = tabled-marks s words n t h done
 
     same : (c : ℕ) → c < 2 ^ n → irredundant n (marked words) c ≡ minimal n (held t s) c
     same c l =
-        let says = minimal-says n (held t s) c (held-monotone n t s b) l in
+        let says = minimal-says n (held t s) c (held-monotone n t s) l in
         bool-ext (irredundant n (marked words) c) (minimal n (held t s) c)
         (λ i. let w = irredundant-says n (marked words) c .0 i in says .1 (sym (marks c l) ∙ w .0, λ i h m. sym (marks (c - 2 ^ i) (omega arith)) ∙ w .1 i h m))
         (λ i. let w = says .0 i in irredundant-says n (marked words) c .1 (marks c l ∙ w .0, λ i h m. marks (c - 2 ^ i) (omega arith) ∙ w .1 i h m))
+
+-- so it is no longer than a largest layer's
+pub listing-few : (s : Side) (words : List ℕ) (n : ℕ) (t : Term) → n ≤ 12 → Tabled t s (wordCount n) words
+    → length (listing n (irredundant n (marked words))) ≤ 1850
+listing-few s words n t h done = rw (listing-listed s words n t h done) (listed-few n (held t s) h)

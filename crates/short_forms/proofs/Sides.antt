@@ -12,9 +12,9 @@ use lib.Seq.{length-take-le, drop-at}
 use Rattle.model.specs.Sides.{confidentiality, integrity}
 use Rattle.model.specs.Bytes.{bigEndian}
 use Rattle.model.specs.Coalitions.{member, mark, packed, those}
-use Rattle.model.specs.Terms.{Term, NamesBelow, held}
+use Rattle.model.specs.Terms.{Term, held}
 use Rattle.model.specs.ShortForms.{pairs, shortForm}
-use Rattle.model.proofs.Listed.{those-add, those-cong, those-marks, length-marks, pairs-append, length-pairs, length-counted}
+use Rattle.model.proofs.Listed.{those-add, those-cong, those-marks, length-those, length-marks, pairs-append, length-pairs}
 use Rattle.model.proofs.Packed.{member-packed}
 use Rattle.words.specs.Evaluation.{LowestBit, Tabled, coalitionWord, wordCount}
 use Rattle.words.proofs.Names.{words-enough}
@@ -99,9 +99,14 @@ side-none n f before room =
       front = front-same (sym (append-nil (take 2 before))) record { size = sym two; content = sym (ap (λ (k : ℕ). take 2 before ++ drop k before) two ∙ take-append-drop 2 before) };
     }
 
-module _ {n : ℕ} {f : ℕ → Bool} {before now : List ℕ} {at w : ℕ} (room : 2 + 2 * 2 ^ n ≤ length before) (done : SideListed n f before now at w) where
+-- how long a listing is
+pub listing-length : (n : ℕ) (f : ℕ → Bool) → length (listing n f) ≡ 2 + 2 * length (those f 0 (2 ^ n))
+unfolding listing
+listing-length n f = omega (arith, length-pairs (those f 0 (2 ^ n)))
+
+module _ {n : ℕ} {f : ℕ → Bool} {before now : List ℕ} {at w : ℕ} (room : length (listing n f) ≤ length before) (done : SideListed n f before now at w) where
   pub side-few : at ≤ 2 + 2 * 2 ^ n
-  side-few = omega (arith, done .place, length-marks n f (64 * w))
+  side-few = omega (arith, done .place, length-marks n f (64 * w), length-those f 0 (2 ^ n))
 
   -- the word that the code makes, the mask and the word of f
   module _ {mask word : ℕ} (m : mask ≡ coalitionWord n w) (e : word ≡ packed f (64 * w) 64) where
@@ -119,7 +124,7 @@ module _ {n : ℕ} {f : ℕ → Bool} {before now : List ℕ} {at w : ℕ} (room
         ∙ ap (λ (l : List ℕ). those (mark n f) 0 (64 * w) ++ l) (ap (λ (i : ℕ). those (mark n f) i 64) s ∙ sym bits-marked)
 
     pub side-room : at + 2 * length (bitsOf (bitAnd mask word) (64 * w)) ≤ length now
-    side-room = omega (arith, done .same, done .place, length-marks n f (64 * (w + 1)), simp length-append at (ap length next-marked))
+    side-room = omega (arith, done .same, done .place, listing-length n f, length-marks n f (64 * (w + 1)), simp length-append at (ap length next-marked))
 
     pub side-more : (part : List ℕ) (j : ℕ) → FrontWritten (pairs (bitsOf (bitAnd mask word) (64 * w))) (take (length now - at) (drop at now)) part j
         → length (take at now ++ (part ++ drop (length now - at) (drop at now))) ≡ length now
@@ -150,18 +155,14 @@ module _ {n : ℕ} {f : ℕ → Bool} {before now : List ℕ} {at w : ℕ} (room
       ∙ ap (λ (k : ℕ). pairs all ++ drop k before) (sym (written .size) ∙ size) in
       record { size = size; content = count .content ∙ ap₂ (λ (k : ℕ) (l : List ℕ). bigEndian k ++ l) number rest }
 
-pub listing-few : (n : ℕ) (f : ℕ → Bool) {before now : List ℕ} {r : ℕ} → FrontWritten (listing n f) before now r → r ≤ 2 + 2 * 2 ^ n
-unfolding listing
-listing-few n f w = omega (arith, w .size, length-counted f (2 ^ n))
-
 -- ---- both sides
 
-pub sides-written : {n : ℕ} {t : Term} {see change before now part : List ℕ} {i j : ℕ} → n ≤ 12 → NamesBelow n t
+pub sides-written : {n : ℕ} {t : Term} {see change before now part : List ℕ} {i j : ℕ} → n ≤ 12
     → Tabled t confidentiality (wordCount n) see → Tabled t integrity (wordCount n) change
     → FrontWritten (listing n (irredundant n (marked see))) before now i
     → FrontWritten (listing n (irredundant n (marked change))) (take (length now - i) (drop i now)) part j
     → FrontWritten (shortForm n (held t)) before (take i now ++ (part ++ drop (length now - i) (drop i now))) (i + j)
 unfolding shortForm
-sides-written {n} {t} {see} {change} {before} {now} {part} {i} {j} h b ts tc first second =
-    rw (← listing-listed confidentiality see n t h b ts, ← listing-listed integrity change n t h b tc)
+sides-written {n} {t} {see} {change} {before} {now} {part} {i} {j} h ts tc first second =
+    rw (← listing-listed confidentiality see n t h ts, ← listing-listed integrity change n t h tc)
     (front-part (listing n (irredundant n (marked see))) (listing n (irredundant n (marked change))) before now part i j first second)

@@ -7,9 +7,8 @@ use Prim.Native.Nat.{ℕ, _-_, _/_, _%_, _^_}
 use lib.ListN.{length, getD, drop}
 use Rattle.model.specs.Bytes.{bigEndian}
 use Rattle.model.specs.Coalitions.{member, implies, every, those}
-use Rattle.model.specs.Terms.{Term, codes, NamesBelow, held}
 use Rattle.model.specs.Answers.{Answer, Outcome}
-use Rattle.model.specs.ShortForms.{pairs, shortForm}
+use Rattle.model.specs.ShortForms.{pairs}
 use Rattle.model.specs.Answers as answers
 use Rattle.short_forms.specs.declared.ShortForm.{ShortForm}
 use Rattle.short_forms.specs.declared.ShortForm.the-variants.{Written, Refused}
@@ -47,7 +46,3 @@ listing n f = bigEndian (length (those f 0 (2 ^ n))) ++ pairs (those f 0 (2 ^ n)
 pub record FrontWritten (bytes before after : List ℕ) (len : ℕ) : Type 0 where
   pub size : len ≡ length bytes
   pub content : after ≡ bytes ++ drop (length bytes) before
-
--- of whatever term of n names these codes are, its short form is written
-pub record ShortWritten (n : ℕ) (bytes before after : List ℕ) (len : ℕ) : Type 0 where
-  pub term : (t : Term) → bytes ≡ codes t → NamesBelow n t → FrontWritten (shortForm n (held t)) before after len

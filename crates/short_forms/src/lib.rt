@@ -1,13 +1,15 @@
 // Short forms: a term's minimal coalitions on each side (document 01, "Short form").
 use terms::TermReading;
 ghost use mathlib.Core.Path.{_≡_};
-ghost use Prim.Native.Nat.{_+_, _*_, _^_, _≤_, _<_};
+ghost use Prim.Native.Nat.{_+_, _*_, _≤_, _<_};
 ghost use lib.ListN.{length};
 ghost use Rattle.model.specs.Bytes.{bigEndian};
 ghost use Rattle.model.specs.Coalitions.{packed};
-ghost use Rattle.model.specs.ShortForms.{pairs, shorten};
+ghost use Rattle.model.specs.Terms.{held};
+ghost use Rattle.model.specs.ShortForms.{pairs, shortForm, shorten};
+ghost use Rattle.words.specs.AnyBytes.{termIn};
 ghost use Rattle.words.specs.Evaluation.{wordCount};
-ghost use Rattle.short_forms.specs.Listings.{outcomeOf, marked, markedWithout, irredundant, bitsOf, listing, FrontWritten, ShortWritten};
+ghost use Rattle.short_forms.specs.Listings.{outcomeOf, marked, markedWithout, irredundant, bitsOf, listing, FrontWritten};
 
 pub enum ShortForm {
     // The number of bytes.
@@ -82,9 +84,10 @@ fn list_word(word: u64, first: usize, buffer: &mut [u8]) -> usize
 }
 
 // Writes one side to the front of the buffer: its minimal coalitions, and then, before them, how many they are. The mask takes
-// away the bits of word 0 that are no coalition of fewer than six names.
+// away the bits of word 0 that are no coalition of fewer than six names. It asks that there is room for them: a table of marks that no
+// term has can list coalitions that lie inside one another, more than a largest layer has.
 fn list_side(marks: &[u64], n: u64, buffer: &mut [u8]) -> usize
-    requires { ⌜ (n ≤ 12) × (wordCount n ≤ length (now marks)) × (2 + 2 * 2 ^ n ≤ length (now buffer)) ⌝ }
+    requires { ⌜ (n ≤ 12) × (wordCount n ≤ length (now marks)) × (length (listing n (irredundant n (marked (now marks)))) ≤ length (now buffer)) ⌝ }
     ensures { λ r. ⌜ FrontWritten (listing n (irredundant n (marked (now (marks .entry))))) (now (buffer .entry)) (now (buffer .exit)) r ⌝ }
 {
     let count = words::word_count(n);
@@ -99,11 +102,11 @@ fn list_side(marks: &[u64], n: u64, buffer: &mut [u8]) -> usize
     at
 }
 
-// Writes the short form of an accepted term, see side then change side. The result is the length. The term is evaluated once: a table of
-// marks for each side, 64 coalitions a word.
+// Writes the short form of the term that the bytes stand for, see side then change side. The result is the length. The term is
+// evaluated once: a table of marks for each side, 64 coalitions a word.
 fn write(n: u64, term: &[u8], buffer: &mut [u8]) -> usize
-    requires { ⌜ (n ≤ 12) × (16388 ≤ length (now buffer)) ⌝ }
-    ensures { λ r. ⌜ ShortWritten n (now (term .entry)) (now (buffer .entry)) (now (buffer .exit)) r ⌝ }
+    requires { ⌜ (n ≤ 12) × (3700 ≤ length (now buffer)) ⌝ }
+    ensures { λ r. ⌜ FrontWritten (shortForm n (held (termIn (now (term .entry))))) (now (buffer .entry)) (now (buffer .exit)) r ⌝ }
 {
     let mut see = [0u64; 64];
     let mut change = [0u64; 64];
@@ -113,14 +116,14 @@ fn write(n: u64, term: &[u8], buffer: &mut [u8]) -> usize
     first + second
 }
 
-// Takes n, a term and a buffer of at least 16,388 bytes. Later bytes keep their content, and a refused call leaves all.
+// Takes n, a term and a buffer of at least 3,700 bytes. Later bytes keep their content, and a refused call leaves all.
 pub fn short_form(n: u64, term: &[u8], buffer: &mut [u8]) -> ShortForm
     ensures { λ r. ⌜ outcomeOf r (now (buffer .exit)) ≡ shorten n (now (term .entry)) (now (buffer .entry)) ⌝ }
 {
     if n < 1 || 12 < n {
         return ShortForm::Refused(7);
     }
-    if buffer.len() < 16388 {
+    if buffer.len() < 3700 {
         return ShortForm::Refused(8);
     }
     let reading = terms::read_term(term, n);

@@ -3,7 +3,7 @@ use mathlib.Core.Path.{sym, ap, _∙_}
 use native.Mathlib.Omega.{arith}
 use Prim.Native.Nat.{_≤_}
 use Rattle.model.specs.Answers.{number, Outcome}
-use Rattle.model.proofs.Listed.{written-few}
+use Rattle.sperner.proofs.Forms.{written-few}
 use Rattle.short_forms.specs.Listings.{formOf}
 use Rattle.rights.proofs.Numbers.{outcome-number}
 use borrow.Author.Needs.{needs}
@@ -20,7 +20,7 @@ cast-result : tie.Need-cast-result
 cast-result c =
     let f = c .before .before .before .before .before .short-form in
     let a = c .before .before .before .before .before .before .before .before .before .args in
-    let few : c .before .form .given .0 .0 ≤ 16388 =
+    let few : c .before .form .given .0 .0 ≤ 3700 =
     written-few (a .n) (a .term .now) (a .buffer .now) (c .before .form .given .0 .0)
     (sym (ap (λ (o : Outcome). o .answer) (f .ensures)) ∙ ap formOf (c .before .form .given .1)) in
     omega arith

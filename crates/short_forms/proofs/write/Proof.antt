@@ -1,23 +1,30 @@
 -- `short_forms::write` meets its contract. Assumes nothing.
-use Prim.Native.Nat.{_*_, _≤_}
+use Prim.Native.Nat.{ℕ, _*_, _≤_}
+use mathlib.Core.List.{List}
 use native.Mathlib.Omega.{arith}
-use lib.ListN.{length-take, length-drop}
-use lib.Pow.{pow-mono}
+use lib.ListN.{length, length-take, length-drop}
 use borrow.Author.Needs.{needs}
-use Rattle.words.proofs.AnyBytes.{term-codes}
-use Rattle.words.specs.Evaluation.{rowCount}
+use Rattle.model.specs.Sides.{Side}
+use Rattle.model.specs.Terms.{Term}
+use Rattle.words.specs.Evaluation.{rowCount, wordCount, Tabled, EvaluatedTo}
 use Rattle.words.proofs.Names.{words-few, rows-few, words-in-rows}
 use Rattle.words.proofs.Tables.{tabled-few}
-use Rattle.short_forms.proofs.Sides.{listing-few, sides-written}
+use Rattle.short_forms.proofs.Needed.{listing-few}
+use Rattle.short_forms.proofs.Sides.{sides-written}
 use Rattle.short_forms.proofs.write.Statement.{statement}
 use Rattle.short_forms.proofs.write.Tie as tie
 
 abbrev start : tie.After-evaluate → tie.Start
 start c = c .before .before .before .before .before
 
+tabled : {t : Term} {s : Side} {before after : List ℕ} (n : ℕ) → EvaluatedTo t s (4 * rowCount n) before after → 64 ≤ length before → Tabled t s (wordCount n) after
+tabled n e room = tabled-few (words-in-rows n) (e .table (omega (arith, rows-few n)))
+
 -- what one side takes
-few : (c : tie.After-list-side) → c .list-side .result ≤ 8194
-few c = omega (arith, pow-mono (start (c .before .before .before) .pre .0), listing-few _ _ (c .list-side .ensures))
+few : (c : tie.After-list-side) → c .list-side .result ≤ 1850
+few c =
+    let e = c .before .before .before in
+    omega (arith, c .list-side .ensures .size, listing-few _ _ _ _ (start e .pre .0) (tabled (start e .args .n) (e .evaluate .ensures .0) (omega arith)))
 
 evaluate-requires : tie.Need-evaluate-requires
 evaluate-requires c κs = search needs
@@ -29,7 +36,11 @@ list-side-requires : tie.Need-list-side-requires
 list-side-requires c κs =
     let e = c .before .before in
     let s = start e in
-    omega (arith, pow-mono (s .pre .0), words-few (s .args .n), e .evaluate .ensures .0 .same, e .evaluate .ensures .1 .same)
+    let tables = e .evaluate .ensures in (
+      s .pre .0,
+      omega (arith, words-few (s .args .n), tables .0 .same),
+      omega (arith, s .pre .1, listing-few _ _ _ _ (s .pre .0) (tabled (s .args .n) (tables .0) (omega arith))),
+    )
 
 slice-aggregate-list-side-2 : tie.Need-slice-aggregate-list-side-2
 slice-aggregate-list-side-2 c =
@@ -50,12 +61,17 @@ list-side-requires-2 c κs =
     let first = c .before .before .before .before in
     let e = first .before .before .before in
     let s = start e in
-    simp (length-take, length-drop) (omega (arith, pow-mono (s .pre .0), words-few (s .args .n), few first, e .evaluate .ensures .0 .same, e .evaluate .ensures .1 .same))
+    let tables = e .evaluate .ensures in (
+      s .pre .0,
+      omega (arith, words-few (s .args .n), tables .1 .same),
+      simp (length-take, length-drop) (omega (arith, s .pre .1, few first, listing-few _ _ _ _ (s .pre .0) (tabled (s .args .n) (tables .1) (omega arith)))),
+    )
 
 add-result : tie.Need-add-result
 add-result c =
     let first = c .before .before .before .before .before .before .before in
-    omega (arith, few first, pow-mono (start (first .before .before .before) .pre .0), listing-few _ _ (c .before .before .list-side2 .ensures))
+    let e = first .before .before .before in
+    omega (arith, few first, c .before .before .list-side2 .ensures .size, listing-few _ _ _ _ (start e .pre .0) (tabled (start e .args .n) (e .evaluate .ensures .1) (omega arith)))
 
 same-length : tie.Need-same-length
 same-length c = search needs
@@ -66,13 +82,7 @@ returns c =
     let e = first .before .before .before in
     let s = start e in
     let tables = e .evaluate .ensures in
-    let n = s .args .n in
-    let room : 4 * rowCount n ≤ 64 = omega (arith, rows-few n) in
-    record {
-      term = λ t is b.
-          let one = term-codes _ _ t is b in
-          sides-written (s .pre .0) b (tabled-few (words-in-rows n) (rw one at (tables .0 .table room))) (tabled-few (words-in-rows n) (rw one at (tables .1 .table room))) (first .list-side .ensures) (c .before .before .list-side2 .ensures);
-    }
+    sides-written (s .pre .0) (tabled (s .args .n) (tables .0) (omega arith)) (tabled (s .args .n) (tables .1) (omega arith)) (first .list-side .ensures) (c .before .before .list-side2 .ensures)
 
 pub write-spec : {M : Type 1} → statement M
 write-spec =

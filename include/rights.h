@@ -164,7 +164,7 @@ uint32_t rights_extract(const uint8_t *ledger, size_t ledger_len, const uint8_t 
  * Which are the smallest coalitions that hold the term, in a job of n names? Writes, for the see side and
  * then for the change side, how many there are and then each, ascending: two bytes each, big-endian.
  * rights_length_of is the number of bytes written; later bytes of the buffer stay as they were. Every short
- * form fits RIGHTS_SHORT_FORM_MIN bytes: of twelve names, no more than 924 coalitions lie none inside another.
+ * form fits RIGHTS_SHORT_FORM_MIN bytes: at most 924 coalitions of twelve names stand with none inside another.
  * Refusals: 7, 8, 1 to 4.
  */
 uint32_t rights_short_form(uint64_t n, const uint8_t *term, size_t term_len, uint8_t *buffer, size_t buffer_len);

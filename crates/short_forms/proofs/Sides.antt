@@ -89,24 +89,28 @@ pub record SideListed (n : ℕ) (f : ℕ → Bool) (before now : List ℕ) (at w
   pub place : at ≡ 2 + 2 * length (those (mark n f) 0 (64 * w))
   pub front : FrontWritten (take 2 before ++ pairs (those (mark n f) 0 (64 * w))) before now at
 
-pub side-none : (n : ℕ) (f : ℕ → Bool) (before : List ℕ) → 2 ≤ length before → SideListed n f before before 2 0
+-- how long a listing is
+listing-length : (n : ℕ) (f : ℕ → Bool) → length (listing n f) ≡ 2 + 2 * length (those f 0 (2 ^ n))
+unfolding listing
+listing-length n f = omega (arith, length-pairs (those f 0 (2 ^ n)))
+
+pub side-none : (n : ℕ) (f : ℕ → Bool) (before : List ℕ) → length (listing n f) ≤ length before → SideListed n f before before 2 0
 unfolding those pairs
 side-none n f before room =
-    let two : length (take 2 before) ≡ 2 = length-take-le 2 before room in
+    let two : length (take 2 before) ≡ 2 = length-take-le 2 before (omega (arith, listing-length n f)) in
     record {
       same = refl;
       place = refl;
       front = front-same (sym (append-nil (take 2 before))) record { size = sym two; content = sym (ap (λ (k : ℕ). take 2 before ++ drop k before) two ∙ take-append-drop 2 before) };
     }
 
--- how long a listing is
-pub listing-length : (n : ℕ) (f : ℕ → Bool) → length (listing n f) ≡ 2 + 2 * length (those f 0 (2 ^ n))
-unfolding listing
-listing-length n f = omega (arith, length-pairs (those f 0 (2 ^ n)))
-
 module _ {n : ℕ} {f : ℕ → Bool} {before now : List ℕ} {at w : ℕ} (room : length (listing n f) ≤ length before) (done : SideListed n f before now at w) where
   pub side-few : at ≤ 2 + 2 * 2 ^ n
   side-few = omega (arith, done .place, length-marks n f (64 * w), length-those f 0 (2 ^ n))
+
+  -- there is room for the count
+  pub side-two : 2 ≤ length now
+  side-two = omega (arith, done .same, listing-length n f)
 
   -- the word that the code makes, the mask and the word of f
   module _ {mask word : ℕ} (m : mask ≡ coalitionWord n w) (e : word ≡ packed f (64 * w) 64) where

@@ -15,7 +15,7 @@ use Rattle.model.proofs.Listed.{those-none}
 use Rattle.model.proofs.Truth.{below-suc, bool-ext}
 use Rattle.sperner.specs.Antichains.{choose, LayersAreBinomial, MiddleLayerIsLargest, TwelveNames}
 use Rattle.sperner.proofs.Counts.{count, count-double, count-cong}
-use Rattle.sperner.proofs.Chains.{chains, count-chains}
+use Rattle.sperner.proofs.Chains.{count-chains}
 use Rattle.sperner.proofs.Sizes.{ofSize, Apart, size-without, size-with, one-size-apart}
 use Rattle.sperner.proofs.Links.{all-chains, apart-most, middle-met}
 

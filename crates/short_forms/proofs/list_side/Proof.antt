@@ -10,7 +10,7 @@ use Rattle.model.proofs.Listed.{length-pairs}
 use Rattle.words.specs.Evaluation.{wordCount}
 use Rattle.words.proofs.Names.{words-few}
 use Rattle.short_forms.specs.Listings.{marked, irredundant, bitsOf}
-use Rattle.short_forms.proofs.Sides.{SideListed, listing-length, side-none, side-few, side-room, side-more, side-whole}
+use Rattle.short_forms.proofs.Sides.{SideListed, side-none, side-few, side-two, side-room, side-more, side-whole}
 use Rattle.short_forms.proofs.list_side.Statement.{statement}
 use Rattle.short_forms.proofs.list_side.Tie as tie
 
@@ -32,7 +32,7 @@ loop-holds : tie.Need-loop-holds Inv-loop μ-loop
 loop-holds c =
     let s = c .before .before .before in
     let e = c .word-count .ensures in
-    (omega arith, e, omega (arith, e, words-few (s .args .n)), side-none (s .args .n) (irredundant (s .args .n) (marked (s .args .marks .now))) (s .args .buffer .now) (omega (arith, s .pre .2, listing-length (s .args .n) (irredundant (s .args .n) (marked (s .args .marks .now))))))
+    (omega arith, e, omega (arith, e, words-few (s .args .n)), side-none (s .args .n) (irredundant (s .args .n) (marked (s .args .marks .now))) (s .args .buffer .now) (s .pre .2))
 
 low-mask-requires : tie.Need-low-mask-requires Inv-loop μ-loop
 low-mask-requires c κs = search needs
@@ -82,7 +82,7 @@ put-requires : tie.Need-put-requires Inv-loop μ-loop
 put-requires c κs =
     let s = c .before .before .before .before .before .before in
     let l = c .before .before .loop in
-    omega (arith, side-few (s .pre .2) (l .inv .3), pow-mono (s .pre .0), s .pre .2, listing-length (s .args .n) (irredundant (s .args .n) (marked (s .args .marks .now))), l .inv .3 .same)
+    omega (arith, side-two (s .pre .2) (l .inv .3), side-few (s .pre .2) (l .inv .3), pow-mono (s .pre .0))
 
 same-length : tie.Need-same-length Inv-loop μ-loop
 same-length c = c .before .before .put .kept .0 ∙ c .before .before .before .before .before .loop .inv .3 .same

@@ -34,7 +34,7 @@ SAME(RIGHTS_DERIVATION_MAX, DERIVATION_MOST);
 SAME(RIGHTS_LEDGER_MAX, RIGHTS_BLOCK_SIZE * (1 + RIGHTS_GRANTS_MAX));
 SAME(RIGHTS_STEP_SIZE, 6 + 2 + 2 * RIGHTS_TERM_MAX);
 SAME(RIGHTS_DERIVATION_MAX, RIGHTS_STEP_SIZE * RIGHTS_STEPS_MAX);
-/* on each side a bit for each coalition; on each side two bytes for the count and for each coalition */
+/* on each side a bit for each coalition; on each side two bytes for the count and for each of a largest layer */
 SAME(RIGHTS_EXTRACT_SIZE, 2 * COALITIONS / 8);
 SAME(RIGHTS_SHORT_FORM_MIN, 2 * (2 + 2 * LARGEST_LAYER));
 

@@ -211,20 +211,27 @@ static unsigned members(unsigned coalition)
     return count;
 }
 
-/* Two of the first six names and two of the other six: 225 minimal coalitions on each side, by 63 codes. */
+/* Has the coalition of six names three members, not all of one half? */
+static bool three_of_two_halves(unsigned coalition)
+{
+    return members(coalition) == 3 && members(coalition % 8) != 0 && members(coalition % 8) != 3;
+}
+
+/* Of each six names one of a half and two of the other half, or the reverse: by 63 codes 18 x 18 minimal coalitions
+ * on each side. */
 static void case_of_many_coalitions(const struct engine *e)
 {
-    struct term t = codes("30 31 31 30 31 31 00 01 02 31 31 03 04 05 31 30 00 01 30 02 31 00 01 31 30 03 04 30 05 31 03 04 "
-                          "31 31 30 31 31 06 07 08 31 31 09 0A 0B 31 30 06 07 30 08 31 06 07 31 30 09 0A 30 0B 31 09 0A");
+    struct term t = codes("30 31 30 31 31 00 01 02 31 30 03 04 30 05 31 03 04 30 31 30 00 01 30 02 31 00 01 31 31 03 04 05 "
+                          "31 30 31 31 06 07 08 31 30 09 0A 30 0B 31 09 0A 30 31 30 06 07 30 08 31 06 07 31 31 09 0A 0B");
     static uint8_t buffer[SHORT_FORM_LEAST], after[SHORT_FORM_LEAST];
     size_t end = 0;
     memset(buffer, 0xAA, sizeof buffer);
     memset(after, 0xAA, sizeof after);
     for (unsigned side = SEE; side <= CHANGE; side++) {
-        after[end++] = 0;
-        after[end++] = 225;
+        after[end++] = 324 / 256;
+        after[end++] = 324 % 256;
         for (unsigned c = 0; c < 1u << NAMES; c++)
-            if (members(c % 64) == 2 && members(c / 64) == 2) {
+            if (three_of_two_halves(c % 64) && three_of_two_halves(c / 64)) {
                 after[end++] = (uint8_t)(c / 256);
                 after[end++] = (uint8_t)(c % 256);
             }

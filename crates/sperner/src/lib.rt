@@ -14,12 +14,12 @@ pub fn the_bound_is_reached()
     ensures { λ _. ⌜ BoundReached ⌝ }
 {}
 
-// As many coalitions have k members as Pascal's rule says.
+// Of n names, n over k coalitions have k members: a binomial coefficient.
 pub fn layers_are_binomial()
     ensures { λ _. ⌜ LayersAreBinomial ⌝ }
 {}
 
-// No size has more coalitions than half of the names.
+// The most coalitions have half of the names as members, rounded down.
 pub fn the_middle_layer_is_the_largest()
     ensures { λ _. ⌜ MiddleLayerIsLargest ⌝ }
 {}

@@ -4,11 +4,12 @@ use mathlib.Core.List.{List}
 use native.Mathlib.Omega.{arith}
 use lib.ListN.{length, length-take, length-drop}
 use borrow.Author.Needs.{needs}
-use Rattle.model.specs.Sides.{Side}
+use Rattle.model.specs.Sides.{Side, confidentiality, integrity}
 use Rattle.model.specs.Terms.{Term}
 use Rattle.words.specs.Evaluation.{rowCount, wordCount, Tabled, EvaluatedTo}
 use Rattle.words.proofs.Names.{words-few, rows-few, words-in-rows}
 use Rattle.words.proofs.Tables.{tabled-few}
+use Rattle.short_forms.specs.Listings.{marked, irredundant, listing}
 use Rattle.short_forms.proofs.Needed.{listing-few}
 use Rattle.short_forms.proofs.Sides.{sides-written}
 use Rattle.short_forms.proofs.write.Statement.{statement}
@@ -17,14 +18,23 @@ use Rattle.short_forms.proofs.write.Tie as tie
 abbrev start : tie.After-evaluate → tie.Start
 start c = c .before .before .before .before .before
 
+-- each table has the words of its side
 tabled : {t : Term} {s : Side} {before after : List ℕ} (n : ℕ) → EvaluatedTo t s (4 * rowCount n) before after → 64 ≤ length before → Tabled t s (wordCount n) after
 tabled n e room = tabled-few (words-in-rows n) (e .table (omega (arith, rows-few n)))
 
--- what one side takes
+-- so the listing of either fits half of the buffer
+fit : {t : Term} {a b see change : List ℕ} (n : ℕ) → n ≤ 12
+    → EvaluatedTo t confidentiality (4 * rowCount n) a see × EvaluatedTo t integrity (4 * rowCount n) b change → (64 ≤ length a) × (64 ≤ length b)
+    → (length (listing n (irredundant n (marked see))) ≤ 1850) × (length (listing n (irredundant n (marked change))) ≤ 1850)
+fit n h tables room = (listing-few _ _ n _ h (tabled n (tables .0) (room .0)), listing-few _ _ n _ h (tabled n (tables .1) (room .1)))
+
+-- what the first side takes
 few : (c : tie.After-list-side) → c .list-side .result ≤ 1850
 few c =
     let e = c .before .before .before in
-    omega (arith, c .list-side .ensures .size, listing-few _ _ _ _ (start e .pre .0) (tabled (start e .args .n) (e .evaluate .ensures .0) (omega arith)))
+    let s = start e in
+    let tables = e .evaluate .ensures in
+    omega (arith, c .list-side .ensures .size, fit (s .args .n) (s .pre .0) tables (omega arith, omega arith))
 
 evaluate-requires : tie.Need-evaluate-requires
 evaluate-requires c κs = search needs
@@ -38,8 +48,8 @@ list-side-requires c κs =
     let s = start e in
     let tables = e .evaluate .ensures in (
       s .pre .0,
-      omega (arith, words-few (s .args .n), tables .0 .same),
-      omega (arith, s .pre .1, listing-few _ _ _ _ (s .pre .0) (tabled (s .args .n) (tables .0) (omega arith))),
+      omega (arith, words-few (s .args .n), tables .0 .same, tables .1 .same),
+      omega (arith, s .pre .1, fit (s .args .n) (s .pre .0) tables (omega arith, omega arith)),
     )
 
 slice-aggregate-list-side-2 : tie.Need-slice-aggregate-list-side-2
@@ -63,15 +73,17 @@ list-side-requires-2 c κs =
     let s = start e in
     let tables = e .evaluate .ensures in (
       s .pre .0,
-      omega (arith, words-few (s .args .n), tables .1 .same),
-      simp (length-take, length-drop) (omega (arith, s .pre .1, few first, listing-few _ _ _ _ (s .pre .0) (tabled (s .args .n) (tables .1) (omega arith)))),
+      omega (arith, words-few (s .args .n), tables .0 .same, tables .1 .same),
+      simp (length-take, length-drop) (omega (arith, s .pre .1, few first, fit (s .args .n) (s .pre .0) tables (omega arith, omega arith))),
     )
 
 add-result : tie.Need-add-result
 add-result c =
     let first = c .before .before .before .before .before .before .before in
     let e = first .before .before .before in
-    omega (arith, few first, c .before .before .list-side2 .ensures .size, listing-few _ _ _ _ (start e .pre .0) (tabled (start e .args .n) (e .evaluate .ensures .1) (omega arith)))
+    let s = start e in
+    let tables = e .evaluate .ensures in
+    omega (arith, few first, c .before .before .list-side2 .ensures .size, fit (s .args .n) (s .pre .0) tables (omega arith, omega arith))
 
 same-length : tie.Need-same-length
 same-length c = search needs

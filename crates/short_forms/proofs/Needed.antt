@@ -16,10 +16,10 @@ use Rattle.model.proofs.Truth.{and-intro, and-left, and-right, implies-elim, im
 use Rattle.model.proofs.Search.{every-elim, every-intro}
 use Rattle.model.proofs.Monotone.{NoneLess, member-le, held-monotone, minimal-says}
 use Rattle.model.proofs.Listed.{those-cong}
-use Rattle.model.proofs.Packed.{member-packed}
+use Rattle.model.proofs.Packed.{member-packed, shifted}
 use Rattle.sperner.proofs.Forms.{listed-few}
 use Rattle.words.specs.Evaluation.{wordCount, Tabled}
-use Rattle.words.proofs.Names.{words-enough, shifted}
+use Rattle.words.proofs.Names.{words-enough}
 use Rattle.short_forms.specs.Listings.{marked, irredundant, listing}
 
 -- the code's test of bit i, and the number without it

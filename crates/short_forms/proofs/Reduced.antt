@@ -13,10 +13,10 @@ use lib.Pow.{pow-mono, pow-add, pow-pos, low}
 use borrow.Author.Tests.{eqb-true, le-leb, lt-leb}
 use Rattle.model.specs.Coalitions.{member, packed, implies, every}
 use Rattle.model.proofs.Truth.{clash, false-of}
-use Rattle.model.proofs.Packed.{packed-lt, own-bits}
+use Rattle.model.proofs.Packed.{packed-lt, own-bits, shifted}
 use Rattle.model.proofs.Monotone.{member-le}
 use Rattle.words.proofs.Packing.{packed-shift, packed-cong, packed-and, packed-not, packed-none, packed-zero, packed-split}
-use Rattle.words.proofs.Names.{below-six, high-member, words-full, shifted}
+use Rattle.words.proofs.Names.{below-six, high-member, words-full}
 use Rattle.short_forms.specs.Listings.{marked, markedWithout, irredundant}
 use Rattle.short_forms.proofs.Needed.{irredundant-says}
 

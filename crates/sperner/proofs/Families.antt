@@ -50,22 +50,22 @@ found (x ∷ l) c e = or-elim (eqb c x) (isIn l c)
     (λ q. (0, omega arith, sym (eqb-true c x q)))
     (λ q. let w = found l c q in (suc (w .0), omega (arith, w .1), w .2)) e
 
--- no two are alike, so they are as many as the list is long
-listed-few : (k : ℕ) (l : List ℕ) → ((i : ℕ) → i < length l → getD l i 0 < k)
+-- no two are alike, so they are no fewer than the list is long
+members-few : (k : ℕ) (l : List ℕ) → ((i : ℕ) → i < length l → getD l i 0 < k)
     → ((i j : ℕ) → i < length l → j < length l → getD l i 0 ≡ getD l j 0 → i ≡ j) → length l ≤ count (isIn l) k
 unfolding isIn
-listed-few k [] below distinct = omega arith
-listed-few k (x ∷ l) below distinct =
+members-few k [] below distinct = omega arith
+members-few k (x ∷ l) below distinct =
     omega (
       arith,
       count-more (isIn l) x k out (below 0 (omega arith)),
-      listed-few k l (λ i h. below (suc i) (omega arith)) (λ i j h m e. let q = distinct (suc i) (suc j) (omega arith) (omega arith) e in omega arith),
+      members-few k l (λ i h. below (suc i) (omega arith)) (λ i j h m e. let q = distinct (suc i) (suc j) (omega arith) (omega arith) e in omega arith),
     )
   where
     out : isIn l x ≡ false
     out = false-of (isIn l x) (λ e. let w = found l x e in let z = distinct 0 (suc (w .0)) (omega arith) (omega (arith, w .1)) (sym (w .2)) in omega arith)
 
--- of two coalitions one is within the other and not inside it
+-- a coalition that is within another and not inside it is the other
 pub not-inside : (n b c : ℕ) → properSubset n b c ≡ false → Subset n b c → b ≡ c
 not-inside n b c e s = elim (ℕ-discrete b c) [
   | yes q ↦ q
@@ -74,7 +74,7 @@ not-inside n b c e s = elim (ℕ-discrete b c) [
 
 pub sperners-bound : SpernersBound
 sperners-bound n l a =
-    omega (arith, listed-few (2 ^ n) l (a .coalitions) (a .distinct), apart-few n (isIn l) apart, largest-middle n)
+    omega (arith, members-few (2 ^ n) l (a .coalitions) (a .distinct), apart-few n (isIn l) apart, largest-middle n)
   where
     apart : Apart n (isIn l)
     apart b c hb hc eb ec =

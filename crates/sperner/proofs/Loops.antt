@@ -9,14 +9,14 @@ use borrow.Author.Tests.{eq-eqb, ne-eqb}
 use Rattle.model.specs.Coalitions.{bit, those}
 use Rattle.model.specs.Layers.{size, layer, largest, largestLayer}
 use Rattle.model.proofs.Listed.{length-those}
+use Rattle.model.proofs.Packed.{shifted}
 use Rattle.sperner.proofs.Counts.{count, count-suc}
 use Rattle.sperner.proofs.Sizes.{ofSize, ones-size}
 
 -- ---- the coalitions of one size
 
--- 1 << n in 64 bits
-pub power-fits : (n r : ℕ) → r ≡ min n 12 → 1 * 2 ^ r % 18446744073709551616 ≡ 2 ^ min n 12
-power-fits n r e = let h : min n 12 ≤ 12 = omega arith in rw e (omega (arith, pow-mono h))
+pub power-fits : (n r : ℕ) → r ≡ min n 12 → 1 * 2 ^ r % 2 ^ 64 ≡ 2 ^ min n 12
+power-fits n r e = ap (λ (x : ℕ). 1 * 2 ^ x % 2 ^ 64) e ∙ shifted (min n 12) (omega arith)
 
 pub counted-few : (n : ℕ) (f : ℕ → Bool) (c : ℕ) → c ≤ 2 ^ min n 12 → count f c ≤ 4096
 counted-few n f c l = let h : min n 12 ≤ 12 = omega arith in omega (arith, length-those f 0 c, pow-mono h)

@@ -63,7 +63,7 @@ taken-codes n (disj p q) rest h =
     taken-step 0x31 ((codes p ++ codes q) ++ rest) ∙ two-codes disj p q rest (taken-codes n p (codes q ++ rest) (h .0)) (taken-codes n q rest (h .1))
 taken-codes n (project s p) rest h = taken-step (projectCode s) (codes p ++ rest) ∙ rw (code-project 12 s, taken-codes n p rest h)
 
-pub term-codes : (n : ℕ) (bytes : List ℕ) (t : Term) → bytes ≡ codes t → NamesBelow n t → termIn bytes ≡ t
+term-codes : (n : ℕ) (bytes : List ℕ) (t : Term) → bytes ≡ codes t → NamesBelow n t → termIn bytes ≡ t
 term-codes n bytes t e below = ap (λ (cs : List ℕ). termIn cs) (e ∙ sym (append-nil (codes t))) ∙ ap (λ (x : Taken). x .term) (taken-codes n t [] below)
 
 -- So does a list that is accepted as a term.

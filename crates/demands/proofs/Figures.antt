@@ -3,7 +3,7 @@ use mathlib.Core.Path.{_≡_, refl}
 use mathlib.Core.Logic.{inl, inr}
 use Prim.Native.Nat.{ℕ, zero, suc, _+_, _%_, _≤_, _<_}
 use mathlib.Core.Bool.{Bool, true, not, _&&_, _||_}
-use mathlib.Core.List.{List, [], _∷_}
+use mathlib.Core.List.{List, [], _∷_, reverse}
 use native.Mathlib.Omega.{arith}
 use lib.Dec.{eqb, leb, ltb}
 use lib.ListN.{length}
@@ -13,19 +13,21 @@ use Rattle.model.specs.Sides.{confidentiality, integrity}
 use Rattle.model.specs.Bytes.{byte}
 use Rattle.model.specs.Readings.{Reading, accepted, refused, from, isAccepted}
 use Rattle.model.specs.Coalitions.{Marks}
-use Rattle.model.specs.Terms.{Term, readTerm, held}
+use Rattle.model.specs.Terms.{Term, jobSize, readTerm, held}
 use Rattle.model.specs.Grants.{Grant, readUnder, countsUnder, ofGrant}
 use Rattle.model.specs.Ledgers.{readBook, Ledger, readLedger}
-use Rattle.model.specs.Answers.{Answer, Yes, No, Written, Refused, RefusedAt, number}
+use Rattle.model.specs.Answers.{Answer, Yes, No, Written, Refused, RefusedAt, number, writtenFront}
 use Rattle.model.specs.Questions.{answerTo, across, soundUnder, actsForUnder, flowsToUnder, ask, actsFor, flowsTo}
 use Rattle.model.specs.Extracts.{extractOf, written, extract}
-use Rattle.model.specs.ShortForms.{shortFormOf, writtenFront, shorten}
+use Rattle.model.specs.ShortForms.{shortFormOf, shorten}
+use Rattle.model.specs.Notation.{Back, ended, noText, readBack, wholeText, textLength, textCodes, termText, readText, writeTerm}
 use Rattle.model.specs.Derivations.{stepAt, Rule, ruleOf, usesOf, stepForm, readLeft, readRight, before, meets, checkStep, onStep, checkSteps, derivationLength, stepCount, checkDerivation}
 use Rattle.model.proofs.Truth.{and-right, cond-case}
 use Rattle.model.proofs.Judge.{judge-no, judge-case}
 use Rattle.model.proofs.Accepted.{names-range}
+use Rattle.model.proofs.Notation.{text-few, term-few}
 use Rattle.sperner.proofs.Forms.{written-few}
-use Rattle.demands.specs.Numbers.{Range, _to_, OneOf, questionRefusals, extractRefusals, shortFormRefusals, derivationRefusals, stepRefusals, AnswersQuestion, AnswersExtract, AnswersShortForm, AnswersDerivation, QuestionsAnswered, ExtractsAnswered, ShortFormsAnswered, DerivationsAnswered, ComesBack, AnswersComeBack}
+use Rattle.demands.specs.Numbers.{Range, _to_, OneOf, questionRefusals, extractRefusals, shortFormRefusals, textRefusals, termRefusals, derivationRefusals, stepRefusals, AnswersQuestion, AnswersExtract, AnswersFront, AnswersDerivation, QuestionsAnswered, ExtractsAnswered, ShortFormsAnswered, NotationAnswered, DerivationsAnswered, ComesBack, AnswersComeBack}
 use Rattle.demands.proofs.Asking.{judged}
 use Rattle.demands.proofs.Refusing.{Only, only-require, only-then, only-term, only-part, only-ledger, given-case, only-under, only-book}
 
@@ -105,27 +107,55 @@ extract-small (Written k) h = absurd h
 extract-small (Refused r) h = one-below extractRefusals r (omega arith) h
 extract-small (RefusedAt k r) h = absurd h
 
--- ---- short forms
-front-answered : (x : Reading (List ℕ)) (buffer : List ℕ) → Only (OneOf shortFormRefusals) x
-    → ((k : ℕ) → writtenFront x buffer .answer ≡ Written k → k ≤ 3700) → AnswersShortForm (writtenFront x buffer .answer)
-front-answered (accepted bytes) buffer o h = h (length bytes) refl
-front-answered (refused r) buffer o h = o
+-- ---- short forms, texts and terms
+module _ (most : ℕ) (refusals : List Range) where
+  front-answered : (x : Reading (List ℕ)) (buffer : List ℕ) → Only (OneOf refusals) x
+      → ((k : ℕ) → writtenFront x buffer .answer ≡ Written k → k ≤ most) → AnswersFront most refusals (writtenFront x buffer .answer)
+  front-answered (accepted bytes) buffer o h = h (length bytes) refl
+  front-answered (refused r) buffer o h = o
+
+  front-small : (answer : Answer) → most < 65536 → EndBelow refusals → AnswersFront most refusals answer → Small answer
+  front-small Yes few e h = absurd h
+  front-small (No s c) few e h = absurd h
+  front-small (Written k) few e h = omega arith
+  front-small (Refused r) few e h = one-below refusals r e h
+  front-small (RefusedAt k r) few e h = absurd h
 
 pub short-forms-answered : ShortFormsAnswered
 unfolding shorten shortFormOf
 short-forms-answered n term buffer =
-    front-answered (shortFormOf n term (length buffer)) buffer
-    (only-require (OneOf shortFormRefusals) (leb 1 n && leb n 12) 7 _ (inl (omega arith, omega arith))
+    front-answered 3700 shortFormRefusals (shortFormOf n term (length buffer)) buffer
+    (only-require (OneOf shortFormRefusals) (jobSize n) 7 _ (inl (omega arith, omega arith))
     (only-require (OneOf shortFormRefusals) (leb 3700 (length buffer)) 8 _ (inl (omega arith, omega arith))
     (only-then (OneOf shortFormRefusals) (readTerm n term) _ (only-term (OneOf shortFormRefusals) n term (λ r a b. inr (inl (a, b)))) (λ t. tt))))
     (written-few n term buffer)
 
-short-form-small : (answer : Answer) → AnswersShortForm answer → Small answer
-short-form-small Yes h = absurd h
-short-form-small (No s c) h = absurd h
-short-form-small (Written k) h = omega arith
-short-form-small (Refused r) h = one-below shortFormRefusals r (omega arith) h
-short-form-small (RefusedAt k r) h = absurd h
+text-only : (n : ℕ) (text : List ℕ) (size : ℕ) → Only (OneOf textRefusals) (textCodes n text size)
+unfolding textCodes
+text-only n text size =
+    only-require (OneOf textRefusals) (jobSize n) 7 _ (inl (omega arith, omega arith))
+    (only-require (OneOf textRefusals) (textLength (length text) && eqb size 64) 81 _ (inr (inl (omega arith, omega arith)))
+    (only-then (OneOf textRefusals) (wholeText (readBack n 2 (reverse text))) _ (only-whole (readBack n 2 (reverse text)))
+    (λ cs. only-require (OneOf textRefusals) (leb (length cs) 64) 83 (accepted cs) (inr (inl (omega arith, omega arith))) tt)))
+  where
+    only-whole : (b : Back) → Only (OneOf textRefusals) (wholeText b)
+    only-whole (ended w []) = tt
+    only-whole (ended w (c ∷ left)) = inr (inl (omega arith, omega arith))
+    only-whole noText = inr (inl (omega arith, omega arith))
+
+term-only : (n : ℕ) (term : List ℕ) (size : ℕ) → Only (OneOf termRefusals) (termText n term size)
+unfolding termText
+term-only n term size =
+    only-require (OneOf termRefusals) (jobSize n) 7 _ (inl (omega arith, omega arith))
+    (only-require (OneOf termRefusals) (eqb size 256) 81 _ (inr (inl (omega arith, omega arith)))
+    (only-then (OneOf termRefusals) (readTerm n term) _ (only-term (OneOf termRefusals) n term (λ r a b. inr (inr (inl (a, b))))) (λ t. tt)))
+
+pub notation-answered : NotationAnswered
+unfolding readText writeTerm
+notation-answered = record {
+  texts = λ n text buffer. front-answered 64 textRefusals (textCodes n text (length buffer)) buffer (text-only n text (length buffer)) (text-few n text buffer);
+  terms = λ n term buffer. front-answered 192 termRefusals (termText n term (length buffer)) buffer (term-only n term (length buffer)) (λ k e. omega (arith, term-few n term buffer k e));
+}
 
 -- ---- derivations
 step-only : (l : Ledger) (f : Grant → Bool) (d : List ℕ) (k : ℕ) (step : List ℕ) (r : Rule) → Only (OneOf stepRefusals) (checkStep l f d k step r)
@@ -176,6 +206,8 @@ answers-come-back = record {
   acts-for = λ ledger p q label. let a = actsFor ledger p q label in comes-back a (question-small ledger a (questions-answered .acts-for ledger p q label));
   flows-to = λ ledger p q label. let a = flowsTo ledger p q label in comes-back a (question-small ledger a (questions-answered .flows-to ledger p q label));
   extracts = λ ledger label buffer. let a = extract ledger label buffer .answer in comes-back a (extract-small a (extracts-answered ledger label buffer));
-  short-forms = λ n term buffer. let a = shorten n term buffer .answer in comes-back a (short-form-small a (short-forms-answered n term buffer));
+  short-forms = λ n term buffer. let a = shorten n term buffer .answer in comes-back a (front-small 3700 shortFormRefusals a (omega arith) (omega arith) (short-forms-answered n term buffer));
+  texts = λ n text buffer. let a = readText n text buffer .answer in comes-back a (front-small 64 textRefusals a (omega arith) (omega arith) (notation-answered .texts n text buffer));
+  terms = λ n term buffer. let a = writeTerm n term buffer .answer in comes-back a (front-small 192 termRefusals a (omega arith) (omega arith) (notation-answered .terms n term buffer));
   derivations = λ d ledger label. let a = checkDerivation d ledger label in comes-back a (derivation-small d a (derivations-answered d ledger label));
 }

@@ -13,4 +13,6 @@ pub mod SevenRules
 pub mod Codes
 pub mod Comparing
 pub mod Deriving
+pub mod Brackets
+pub mod Language
 pub mod Tried

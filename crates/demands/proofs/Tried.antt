@@ -13,7 +13,9 @@ use Rattle.model.specs.Grants.{countsUnder, visible, voice, spoken, counts, cho
 use Rattle.model.specs.Ledgers.{readBook, weighted, checkOf, checked, grantBlocks, allChecked, headerForm, grantForm, readTerms, readGrant, readGrants, readLedger, withCheck, ledgerOf}
 use Rattle.model.specs.Questions.{refutes, judge, across, soundUnder, actsForUnder, flowsToUnder, ask, actsFor, flowsTo}
 use Rattle.model.specs.Extracts.{packedBytes, table, extractOf, extract}
-use Rattle.demands.specs.Cases.{plain, oneGrant, sideSpoken, sideLabelled, HeldEverywhere, WorkedCases, WrongTurns}
+use Rattle.model.specs.Texts.{flat, term, rank, fewest}
+use Rattle.model.specs.Notation.{lastOf, readDeep, textCodes, termText}
+use Rattle.demands.specs.Cases.{plain, oneGrant, sideSpoken, sideLabelled, HeldEverywhere, WorkedCases, WrongTurns, NotationCases}
 
 either-held : HeldEverywhere 2 (0x31 ∷ 0x40 ∷ 0x00 ∷ 0x41 ∷ 0x01 ∷ [])
 unfolding codeOf readWithin readTerm held
@@ -54,4 +56,35 @@ wrong-turns = record {
   invisible-see-side = refl;
   voice-see-side = refl;
   either-across = refl;
+}
+
+pub notation-cases : NotationCases
+unfolding codes codeOf readWithin readTerm flat term rank fewest lastOf readDeep textCodes termText
+notation-cases = record {
+  read-1 = refl;
+  read-2 = refl;
+  read-3 = refl;
+  read-4 = refl;
+  read-5 = refl;
+  read-6 = refl;
+  no-text-1 = refl;
+  no-text-2 = refl;
+  no-text-3 = refl;
+  no-text-4 = refl;
+  no-text-5 = refl;
+  no-text-6 = refl;
+  no-text-7 = refl;
+  no-text-8 = refl;
+  too-many = refl;
+  too-many-and-no-text = refl;
+  too-long = refl;
+  no-names = refl;
+  thirteen-names = refl;
+  large-buffer = refl;
+  write-1 = refl;
+  write-2 = refl;
+  write-3 = refl;
+  write-4 = refl;
+  write-5 = refl;
+  large-text-buffer = refl;
 }

@@ -1,16 +1,17 @@
--- Document 01, "Tried sums": the starred cases on its own bytes, and cases for its wrong turns. Assumes nothing: these are the statements.
+-- Document 01, "Tried sums": the starred cases on its own bytes, and cases for its wrong turns; document 02, the cases of K1. Assumes nothing: these are the statements.
 use mathlib.Core.Path.{_≡_}
 use Prim.Native.Nat.{ℕ}
 use mathlib.Core.Bool.{true}
 use mathlib.Core.List.{List, [], _∷_, _++_}
 use lib.ListN.{length, replicate}
 use Rattle.model.specs.Sides.{Side, confidentiality, integrity}
-use Rattle.model.specs.Readings.{accepted}
+use Rattle.model.specs.Readings.{accepted, refused}
 use Rattle.model.specs.Terms.{Term, readTerm, held}
 use Rattle.model.specs.Ledgers.{withCheck, ledgerOf}
 use Rattle.model.specs.Answers.{Yes, No}
 use Rattle.model.specs.Questions.{actsFor, flowsTo}
 use Rattle.model.specs.Extracts.{extract}
+use Rattle.model.specs.Notation.{textCodes, termText}
 
 -- a field of 64 bytes that begins with one or two codes
 abbrev pub code1 : ℕ → List ℕ
@@ -82,3 +83,57 @@ pub record WrongTurns : Type 0 where
   pub voice-see-side : actsFor sideSpoken (0x00 ∷ []) (0x40 ∷ 0x01 ∷ []) (0x21 ∷ []) ≡ No confidentiality 1
   -- an either across two sides is held where one of them is
   pub either-across : actsFor plain (0x21 ∷ []) (0x31 ∷ 0x40 ∷ 0x00 ∷ 0x41 ∷ 0x01 ∷ []) (0x21 ∷ []) ≡ Yes
+
+-- Document 02, K1: the cases of the written notation, on their own characters and codes.
+pub record NotationCases : Type 0 where
+  -- a|b|c: joined by | from the left
+  pub read-1 : textCodes 3 (0x61 ∷ 0x7C ∷ 0x62 ∷ 0x7C ∷ 0x63 ∷ []) 64 ≡ accepted (0x31 ∷ 0x31 ∷ 0x00 ∷ 0x01 ∷ 0x02 ∷ [])
+  -- a|(b|c): brackets group to the right
+  pub read-2 : textCodes 3 (0x61 ∷ 0x7C ∷ 0x28 ∷ 0x62 ∷ 0x7C ∷ 0x63 ∷ 0x29 ∷ []) 64 ≡ accepted (0x31 ∷ 0x00 ∷ 0x31 ∷ 0x01 ∷ 0x02 ∷ [])
+  -- a|b&c: & binds closer
+  pub read-3 : textCodes 3 (0x61 ∷ 0x7C ∷ 0x62 ∷ 0x26 ∷ 0x63 ∷ []) 64 ≡ accepted (0x31 ∷ 0x00 ∷ 0x30 ∷ 0x01 ∷ 0x02 ∷ [])
+  -- a&b>: > is of the last atom
+  pub read-4 : textCodes 2 (0x61 ∷ 0x26 ∷ 0x62 ∷ 0x3E ∷ []) 64 ≡ accepted (0x30 ∷ 0x00 ∷ 0x40 ∷ 0x01 ∷ [])
+  -- (a&b)><: the last sign is the outermost
+  pub read-5 : textCodes 2 (0x28 ∷ 0x61 ∷ 0x26 ∷ 0x62 ∷ 0x29 ∷ 0x3E ∷ 0x3C ∷ []) 64 ≡ accepted (0x41 ∷ 0x40 ∷ 0x30 ∷ 0x00 ∷ 0x01 ∷ [])
+  -- a<>: signs after a name
+  pub read-6 : textCodes 1 (0x61 ∷ 0x3C ∷ 0x3E ∷ []) 64 ≡ accepted (0x40 ∷ 0x41 ∷ 0x00 ∷ [])
+  -- c
+  pub no-text-1 : textCodes 2 (0x63 ∷ []) 64 ≡ refused 82
+  -- ()
+  pub no-text-2 : textCodes 2 (0x28 ∷ 0x29 ∷ []) 64 ≡ refused 82
+  -- a&
+  pub no-text-3 : textCodes 2 (0x61 ∷ 0x26 ∷ []) 64 ≡ refused 82
+  -- >a
+  pub no-text-4 : textCodes 2 (0x3E ∷ 0x61 ∷ []) 64 ≡ refused 82
+  -- a b
+  pub no-text-5 : textCodes 2 (0x61 ∷ 0x20 ∷ 0x62 ∷ []) 64 ≡ refused 82
+  -- A
+  pub no-text-6 : textCodes 2 (0x41 ∷ []) 64 ≡ refused 82
+  -- (a
+  pub no-text-7 : textCodes 2 (0x28 ∷ 0x61 ∷ []) 64 ≡ refused 82
+  -- a)
+  pub no-text-8 : textCodes 2 (0x61 ∷ 0x29 ∷ []) 64 ≡ refused 82
+  -- a and 64 times >
+  pub too-many : textCodes 1 (0x61 ∷ replicate 64 0x3E) 64 ≡ refused 83
+  -- a, 64 times > and then &: 82 comes before 83
+  pub too-many-and-no-text : textCodes 1 (0x61 ∷ replicate 64 0x3E ++ 0x26 ∷ []) 64 ≡ refused 82
+  -- a and 256 times >
+  pub too-long : textCodes 1 (0x61 ∷ replicate 256 0x3E) 64 ≡ refused 81
+  -- an empty text, and n 0 or 13: 7 comes before 81
+  pub no-names : textCodes 0 [] 64 ≡ refused 7
+  pub thirteen-names : textCodes 13 [] 64 ≡ refused 7
+  -- a buffer of 65 bytes
+  pub large-buffer : textCodes 1 (0x61 ∷ []) 65 ≡ refused 81
+  -- (a|b)&c
+  pub write-1 : termText 3 (0x30 ∷ 0x31 ∷ 0x00 ∷ 0x01 ∷ 0x02 ∷ []) 256 ≡ accepted (0x28 ∷ 0x61 ∷ 0x7C ∷ 0x62 ∷ 0x29 ∷ 0x26 ∷ 0x63 ∷ [])
+  -- a&(b&c)
+  pub write-2 : termText 3 (0x30 ∷ 0x00 ∷ 0x30 ∷ 0x01 ∷ 0x02 ∷ []) 256 ≡ accepted (0x61 ∷ 0x26 ∷ 0x28 ∷ 0x62 ∷ 0x26 ∷ 0x63 ∷ 0x29 ∷ [])
+  -- a|b|c
+  pub write-3 : termText 3 (0x31 ∷ 0x31 ∷ 0x00 ∷ 0x01 ∷ 0x02 ∷ []) 256 ≡ accepted (0x61 ∷ 0x7C ∷ 0x62 ∷ 0x7C ∷ 0x63 ∷ [])
+  -- a<>
+  pub write-4 : termText 2 (0x40 ∷ 0x41 ∷ 0x00 ∷ []) 256 ≡ accepted (0x61 ∷ 0x3C ∷ 0x3E ∷ [])
+  -- (a&b)><
+  pub write-5 : termText 2 (0x41 ∷ 0x40 ∷ 0x30 ∷ 0x00 ∷ 0x01 ∷ []) 256 ≡ accepted (0x28 ∷ 0x61 ∷ 0x26 ∷ 0x62 ∷ 0x29 ∷ 0x3E ∷ 0x3C ∷ [])
+  -- a buffer of 257 bytes
+  pub large-text-buffer : termText 1 (0x00 ∷ []) 257 ≡ refused 81

@@ -6,4 +6,5 @@ pub mod Rules
 pub mod Extracts
 pub mod Derivations
 pub mod Numbers
+pub mod Notation
 pub mod Cases

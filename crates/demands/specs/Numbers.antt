@@ -10,6 +10,7 @@ use Rattle.model.specs.Answers.{Answer, Yes, No, Written, Refused, RefusedAt, s
 use Rattle.model.specs.Questions.{actsFor, flowsTo}
 use Rattle.model.specs.Extracts.{extract}
 use Rattle.model.specs.ShortForms.{shorten}
+use Rattle.model.specs.Notation.{readText, writeTerm}
 use Rattle.model.specs.Derivations.{stepCount, checkDerivation}
 
 -- What a C program takes out of a number: the arithmetic of include/rights.h.
@@ -59,6 +60,12 @@ extractRefusals = 51 to 51 ∷ 10 to 14 ∷ 41 to 44 ∷ []
 abbrev pub shortFormRefusals : List Range
 shortFormRefusals = 7 to 8 ∷ 1 to 4 ∷ []
 
+abbrev pub textRefusals : List Range
+textRefusals = 7 to 7 ∷ 81 to 83 ∷ []
+
+abbrev pub termRefusals : List Range
+termRefusals = 7 to 7 ∷ 81 to 81 ∷ 1 to 4 ∷ []
+
 abbrev pub derivationRefusals : List Range
 derivationRefusals = 10 to 14 ∷ 41 to 44 ∷ 60 to 60 ∷ []
 
@@ -87,13 +94,13 @@ AnswersExtract (Written k) = ⊥
 AnswersExtract (Refused r) = OneOf extractRefusals r
 AnswersExtract (RefusedAt k r) = ⊥
 
--- Short form: written, of at most 3,700 bytes, or refused.
-abbrev pub AnswersShortForm : Answer → Type 0
-AnswersShortForm Yes = ⊥
-AnswersShortForm (No s c) = ⊥
-AnswersShortForm (Written k) = k ≤ 3700
-AnswersShortForm (Refused r) = OneOf shortFormRefusals r
-AnswersShortForm (RefusedAt k r) = ⊥
+-- Short form, a text's codes and a term's text: written, of at most so many bytes, or refused.
+abbrev pub AnswersFront : ℕ → List Range → Answer → Type 0
+AnswersFront most refusals Yes = ⊥
+AnswersFront most refusals (No s c) = ⊥
+AnswersFront most refusals (Written k) = k ≤ most
+AnswersFront most refusals (Refused r) = OneOf refusals r
+AnswersFront most refusals (RefusedAt k r) = ⊥
 
 -- Derivation check: accepted, refused, or refused at one of the steps, which are at most 64.
 abbrev pub AnswersDerivation : List ℕ → Answer → Type 0
@@ -113,7 +120,11 @@ abbrev pub ExtractsAnswered : Type 0
 ExtractsAnswered = (ledger label buffer : List ℕ) → AnswersExtract (extract ledger label buffer .answer)
 
 abbrev pub ShortFormsAnswered : Type 0
-ShortFormsAnswered = (n : ℕ) (term buffer : List ℕ) → AnswersShortForm (shorten n term buffer .answer)
+ShortFormsAnswered = (n : ℕ) (term buffer : List ℕ) → AnswersFront 3700 shortFormRefusals (shorten n term buffer .answer)
+
+pub record NotationAnswered : Type 0 where
+  pub texts : (n : ℕ) (text buffer : List ℕ) → AnswersFront 64 textRefusals (readText n text buffer .answer)
+  pub terms : (n : ℕ) (term buffer : List ℕ) → AnswersFront 192 termRefusals (writeTerm n term buffer .answer)
 
 abbrev pub DerivationsAnswered : Type 0
 DerivationsAnswered = (derivation ledger label : List ℕ) → AnswersDerivation derivation (checkDerivation derivation ledger label)
@@ -127,4 +138,6 @@ pub record AnswersComeBack : Type 0 where
   pub flows-to : (ledger p q label : List ℕ) → ComesBack (flowsTo ledger p q label)
   pub extracts : (ledger label buffer : List ℕ) → ComesBack (extract ledger label buffer .answer)
   pub short-forms : (n : ℕ) (term buffer : List ℕ) → ComesBack (shorten n term buffer .answer)
+  pub texts : (n : ℕ) (text buffer : List ℕ) → ComesBack (readText n text buffer .answer)
+  pub terms : (n : ℕ) (term buffer : List ℕ) → ComesBack (writeTerm n term buffer .answer)
   pub derivations : (derivation ledger label : List ℕ) → ComesBack (checkDerivation derivation ledger label)

@@ -11,6 +11,7 @@ pub mod Table
 pub mod Extracted
 pub mod Same
 pub mod Accepted
+pub mod Outcomes
 pub mod Without
 pub mod Blocks
 pub mod Stands
@@ -19,3 +20,6 @@ pub mod Prefixes
 pub mod Monotone
 pub mod Listed
 pub mod Telling
+pub mod Texts
+pub mod Bracketed
+pub mod Notation

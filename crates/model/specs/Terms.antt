@@ -23,6 +23,10 @@ abbrev pub projectCode : Side → ℕ
 projectCode confidentiality = 0x40
 projectCode integrity = 0x41
 
+-- a job has 1 to 12 names
+abbrev pub jobSize : ℕ → Bool
+jobSize n = leb 1 n && leb n 12
+
 -- A term's codes, operator first.
 unfoldable pub codes : Term → List ℕ
 codes (name i) = i ∷ []

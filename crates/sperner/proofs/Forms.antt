@@ -10,10 +10,10 @@ use borrow.Author.Tests.{not-true, leb-true}
 use Rattle.model.specs.Sides.{confidentiality, integrity}
 use Rattle.model.specs.Readings.{Reading, accepted, refused, andThen, require}
 use Rattle.model.specs.Coalitions.{Marks, every, properSubset, those}
-use Rattle.model.specs.Terms.{Term, readTerm, held}
-use Rattle.model.specs.Answers.{Written}
+use Rattle.model.specs.Terms.{Term, jobSize, readTerm, held}
+use Rattle.model.specs.Answers.{Written, writtenFront}
 use Rattle.model.specs.Layers.{largestLayer, roomFor}
-use Rattle.model.specs.ShortForms.{minimal, listed, shortForm, shortFormOf, writtenFront, shorten}
+use Rattle.model.specs.ShortForms.{minimal, listed, shortForm, shortFormOf, shorten}
 use Rattle.model.proofs.Listed.{length-pairs}
 use Rattle.model.proofs.Search.{every-elim}
 use Rattle.model.proofs.Truth.{and-left, and-right, and-intro, clash, false-of}
@@ -56,9 +56,9 @@ short-forms-fit = record {
 -- so a length that is answered fits the least buffer, and the figure of an answer to C
 pub written-few : (n : ℕ) (term buffer : List ℕ) (k : ℕ) → shorten n term buffer .answer ≡ Written k → k ≤ 3700
 unfolding shorten shortFormOf
-written-few n term buffer k = go (leb 1 n && leb n 12) (leb 3700 (length buffer)) (readTerm n term) refl
+written-few n term buffer k = go (jobSize n) (leb 3700 (length buffer)) (readTerm n term) refl
   where
-    go : (a b : Bool) (r : Reading Term) → (leb 1 n && leb n 12) ≡ a
+    go : (a b : Bool) (r : Reading Term) → jobSize n ≡ a
         → writtenFront (require a 7 (require b 8 (andThen r (λ t. accepted (shortForm n (held t)))))) buffer .answer ≡ Written k → k ≤ 3700
     go false b r h e = absurd (let z : _≡_ {A = ℕ} 0 1 = cc in omega arith)
     go true false r h e = absurd (let z : _≡_ {A = ℕ} 0 1 = cc in omega arith)

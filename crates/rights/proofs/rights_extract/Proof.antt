@@ -2,7 +2,7 @@
 use native.Mathlib.Omega.{arith}
 use Rattle.model.specs.Answers.{number}
 use Rattle.extracts.specs.Results.{extractedOf}
-use Rattle.rights.proofs.Numbers.{outcome-number}
+use Rattle.model.proofs.Outcomes.{outcome-number}
 use borrow.Author.Needs.{needs}
 use Rattle.rights.proofs.rights_extract.Statement.{statement}
 use Rattle.rights.proofs.rights_extract.Tie as tie

@@ -5,7 +5,7 @@ use Prim.Native.Nat.{_≤_}
 use Rattle.model.specs.Answers.{number, Outcome}
 use Rattle.sperner.proofs.Forms.{written-few}
 use Rattle.short_forms.specs.Listings.{formOf}
-use Rattle.rights.proofs.Numbers.{outcome-number}
+use Rattle.model.proofs.Outcomes.{outcome-number}
 use borrow.Author.Needs.{needs}
 use Rattle.rights.proofs.rights_short_form.Statement.{statement}
 use Rattle.rights.proofs.rights_short_form.Tie as tie

@@ -25,6 +25,8 @@ CALLS = 250000
 
 # another archive to test: make check-c LIB=other/librights.a
 LIB = build/librights.a
+# the calls of tests/trials.h, for tests alone
+TRIALS = build/libtrials.a
 CASES_DATA = crates/cases/data/calls
 
 # where to install; absolute, since rights.pc names it
@@ -34,17 +36,19 @@ LIBDIR = $(PREFIX)/lib
 INCLUDEDIR = $(PREFIX)/include
 PKGCONFIGDIR = $(LIBDIR)/pkgconfig
 
-BOTH = tests/calls.c tests/build.c reference/reference.c
-BOTH_AND_LIB = $(BOTH) tests/library.c $(LIB)
+BOTH = tests/calls.c tests/build.c reference/reference.c reference/notation.c
+BOTH_AND_LIB = $(BOTH) tests/library.c $(LIB) $(TRIALS)
 RANDOM = tests/random_calls.c tests/coverage.c
 BENCH = bench/bench.c bench/jobs.c $(RANDOM) $(BOTH_AND_LIB)
 HEADERS = $(wildcard include/*.h reference/*.h tests/*.h bench/*.h)
 
+CRATES = crates.txt $(shell find crates -name '*.rt' -o -name '*.antt')
+
 library: build/librights.a build/rights.h build/rights.pc
 
-build/librights.a: crates.txt $(shell find crates -name '*.rt' -o -name '*.antt') | build
-	rt staticlib rights
-	cp target/staticlib/librights.a $@
+build/librights.a build/libtrials.a: build/lib%.a: $(CRATES) | build
+	rt staticlib $*
+	cp target/staticlib/lib$*.a $@
 
 build/rights.h: include/rights.h | build
 	cp $< $@
@@ -157,6 +161,7 @@ test:
 	.ci/run
 
 check-c: $(PROGRAMS) build/from_cpp check-cases-data
+	! nm $(LIB) | grep trials_
 	build/header
 	grep -F "It prints \`$$(build/first)\`" README.md
 	build/worked_cases

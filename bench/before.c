@@ -3,10 +3,10 @@
 
 question_call before_rights_acts_for, before_rights_flows_to;
 extract_call before_rights_extract;
-short_form_call before_rights_short_form;
+writing_call before_rights_short_form;
 derivation_call before_rights_check_derivation;
 
 const struct engine before_engine = {
     BEFORE, before_rights_acts_for, before_rights_flows_to, before_rights_extract, before_rights_short_form,
-    before_rights_check_derivation,
+    before_rights_check_derivation, NULL, NULL,
 };

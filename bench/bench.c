@@ -34,15 +34,21 @@ static const struct engine *const engines[] = {
 
 enum { LIBRARY, REFERENCE, EARLIER, ENGINES = sizeof engines / sizeof *engines };
 
-/* All engines gave the same number, and it is as wanted; otherwise the run ends. */
-static void expect(const char *what, const uint32_t *answers, bool wanted)
+/* How many of the engines make this call: an earlier archive doesn't have the calls of trials.h. */
+static unsigned engines_for(enum operation operation)
 {
-    for (unsigned e = 0; e < ENGINES; e++)
+    return operation == READ_TEXT || operation == WRITE_TERM ? EARLIER : ENGINES;
+}
+
+/* These engines gave the same number, and it is as wanted; otherwise the run ends. */
+static void expect(const char *what, const uint32_t *answers, unsigned count, bool wanted)
+{
+    for (unsigned e = 0; e < count; e++)
         wanted = wanted && answers[e] == answers[0];
     if (wanted)
         return;
     printf("%s: not the wanted answer:", what);
-    for (unsigned e = 0; e < ENGINES; e++)
+    for (unsigned e = 0; e < count; e++)
         printf(" %s %lu", engines[e]->name, (unsigned long)answers[e]);
     putchar('\n');
     exit(1);
@@ -72,7 +78,7 @@ static void expect_counting(struct call *call, unsigned grant, bool counts)
     struct request request = request_of(call, buffer);
     for (unsigned e = 0; e < ENGINES; e++)
         answers[e] = perform(engines[e], &request);
-    expect("which grants count", answers, answers[0] == wanted);
+    expect("which grants count", answers, ENGINES, answers[0] == wanted);
 }
 
 /* How many grants of a job count: just those that are meant to. */
@@ -142,28 +148,31 @@ static void next_row(unsigned engine, unsigned count, struct measured *m)
         m->best = call;
 }
 
-/* Measures the engines in turns, on the first `count` calls. */
-static void measure(unsigned count, struct measured *measured)
+/* Measures the first engines in turns, on the first `count` calls. */
+static void measure(unsigned engine_count, unsigned count, struct measured *measured)
 {
-    for (unsigned e = 0; e < ENGINES; e++)
+    for (unsigned e = 0; e < engine_count; e++)
         measured[e] = first_row(e, count);
     for (unsigned row = 1; row < ROWS; row++)
-        for (unsigned e = 0; e < ENGINES; e++)
+        for (unsigned e = 0; e < engine_count; e++)
             if (measured[e].spent < ENOUGH)
                 next_row(e, count, &measured[e]);
 }
 
+/* A no is a late one, and what is refused has too many codes. */
 static bool is_wanted(uint32_t answer, unsigned kind, unsigned n)
 {
+    if (kind == REFUSED)
+        return answer == REFUSED * PER_KIND + 83;
     return kind == NO ? is_late_no(answer, n) : answer / PER_KIND == kind;
 }
 
 /* ---- Tables ---- */
 
-static void print_head(const char *what)
+static void print_head(const char *what, unsigned engine_count)
 {
     printf("%-28s %12s %14s %8s", what, "library, us", "reference, us", "ratio");
-    for (unsigned e = EARLIER; e < ENGINES; e++)
+    for (unsigned e = EARLIER; e < engine_count; e++)
         printf(" %12s %14s", "before, us", "times as fast");
     putchar('\n');
 }
@@ -172,12 +181,13 @@ static void print_head(const char *what)
 static void print_line(const char *what, unsigned count, unsigned kind, unsigned n)
 {
     struct measured measured[ENGINES];
-    measure(count, measured);
+    unsigned engine_count = engines_for(requests[0].operation);
+    measure(engine_count, count, measured);
     for (unsigned i = 0; i < count; i++)
-        expect(what, answers_of[i], is_wanted(answers_of[i][0], kind, n));
+        expect(what, answers_of[i], engine_count, is_wanted(answers_of[i][0], kind, n));
     double library = measured[LIBRARY].best, reference = measured[REFERENCE].best;
     printf("  %-26s %12.2f %14.2f %8.1f", what, library, reference, reference / library);
-    for (unsigned e = EARLIER; e < ENGINES; e++)
+    for (unsigned e = EARLIER; e < engine_count; e++)
         printf(" %12.2f %14.2f", measured[e].best, measured[e].best / library);
     putchar('\n');
     fflush(stdout);
@@ -197,6 +207,25 @@ static const struct row {
     {"short form", make_short_form, YES},
 };
 
+static const struct row notation_rows[] = {
+    {"read 38 characters", make_usual_text, YES},
+    {"read 256, 64 codes", make_bracketed_text, YES},
+    {"read 256, refused by 83", make_bare_text, REFUSED},
+    {"write 64 codes", make_written_term, YES},
+};
+
+/* Each row on one job, and then on all in turn. */
+static void print_rows(const struct row *row, unsigned count, struct job job)
+{
+    char in_turn[32];
+    snprintf(in_turn, sizeof in_turn, "  %u jobs in turn", JOBS);
+    for (const struct row *end = row + count; row < end; row++) {
+        make_calls(row->make, job);
+        print_line(row->what, 1, row->kind, job.n);
+        print_line(in_turn, JOBS, row->kind, job.n);
+    }
+}
+
 /* What the ledger of the first job is like; of all jobs it is made sure which grants count. */
 static void print_ledger(const char *what, make_call *make_extract, struct job job)
 {
@@ -210,17 +239,11 @@ static void print_ledger(const char *what, make_call *make_extract, struct job j
 
 static void print_job(struct job job)
 {
-    char in_turn[32];
-    snprintf(in_turn, sizeof in_turn, "  %u jobs in turn", JOBS);
     printf("%u names, %u grants, %u codes\n", job.n, job.grants, job.codes);
     print_ledger("chain", make_chain_extract, job);
     print_ledger("breaking", make_breaking_extract, job);
-    print_head("");
-    for (const struct row *row = rows; row < rows + sizeof rows / sizeof *rows; row++) {
-        make_calls(row->make, job);
-        print_line(row->what, 1, row->kind, job.n);
-        print_line(in_turn, JOBS, row->kind, job.n);
-    }
+    print_head("", ENGINES);
+    print_rows(rows, sizeof rows / sizeof *rows, job);
 }
 
 static void print_growth_line(struct job job, const char *unit, unsigned count)
@@ -233,16 +256,22 @@ static void print_growth_line(struct job job, const char *unit, unsigned count)
 
 static void print_growth_with_grants(void)
 {
-    print_head("8 names, 9 codes, by grants");
+    print_head("8 names, 9 codes, by grants", ENGINES);
     for (unsigned grants = 1; grants <= GRANTS; grants *= 2)
         print_growth_line((struct job){8, grants, 9}, "grants", grants);
 }
 
 static void print_growth_with_names(void)
 {
-    print_head("16 grants, 9 codes, by names");
+    print_head("16 grants, 9 codes, by names", ENGINES);
     for (unsigned n = 2; n <= NAMES; n++)
         print_growth_line((struct job){n, 16, 9}, "names", n);
+}
+
+static void print_notation(void)
+{
+    print_head("12 names, notation", EARLIER);
+    print_rows(notation_rows, sizeof notation_rows / sizeof *notation_rows, (struct job){NAMES, 0, 0});
 }
 
 int main(void)
@@ -254,5 +283,6 @@ int main(void)
     print_job((struct job){NAMES, GRANTS, 63});
     print_growth_with_grants();
     print_growth_with_names();
+    print_notation();
     return 0;
 }

@@ -335,3 +335,64 @@ void make_short_form(struct call *call, struct job job, unsigned seed)
     call->p = mixed_tree(&source, names, job.n, job.codes);
     call->buffer_length = BUFFER_ROOM; /* enough for earlier archives, which ask for more, too */
 }
+
+/* ---- Notation ---- */
+
+static struct source start_notation(struct call *call, enum operation operation, struct job job, unsigned seed)
+{
+    start_call(call, job);
+    call->operation = operation;
+    call->buffer_length = buffer_length_of(operation);
+    return (struct source){seed};
+}
+
+/* Puts more text, in which each n stands for some name, j for some joiner and s for some sign. */
+static void put_text(struct source *source, struct call *call, const char *text)
+{
+    for (; *text != 0; text++)
+        switch (*text) {
+        case 'n':
+            put_code(&call->p, 'a' + below(source, (unsigned)call->number));
+            break;
+        case 'j':
+            put_code(&call->p, below(source, 2) ? '&' : '|');
+            break;
+        case 's':
+            put_code(&call->p, below(source, 2) ? '>' : '<');
+            break;
+        default:
+            put_code(&call->p, (uint8_t)*text);
+        }
+}
+
+void make_bracketed_text(struct call *call, struct job job, unsigned seed)
+{
+    struct source source = start_notation(call, READ_TEXT, job, seed);
+    put_text(&source, call, "(((n)))");
+    for (unsigned i = 1; i < CODES / 2; i++)
+        put_text(&source, call, "j(((n)))");
+    put_text(&source, call, "s");
+}
+
+void make_bare_text(struct call *call, struct job job, unsigned seed)
+{
+    struct source source = start_notation(call, READ_TEXT, job, seed);
+    put_text(&source, call, "n");
+    while (call->p.length < TEXT_MOST)
+        put_text(&source, call, call->p.length == TEXT_MOST - 1 || below(&source, 2) ? "s" : "jn");
+}
+
+void make_usual_text(struct call *call, struct job job, unsigned seed)
+{
+    struct source source = start_notation(call, READ_TEXT, job, seed);
+    put_text(&source, call, "(njn)j(njn)sj(njn)j(njn)sj(njn)j(njn)s");
+}
+
+void make_written_term(struct call *call, struct job job, unsigned seed)
+{
+    struct source source = start_notation(call, WRITE_TERM, job, seed);
+    unsigned names[NAMES];
+    shuffle(&source, names, 0, job.n);
+    struct term part = mixed_tree(&source, names, job.n, CODES - 1);
+    call->p = prefixed(SEE_OF, &part);
+}

@@ -33,6 +33,10 @@ make_call make_granted_yes;
 
 make_call make_short_form;
 
+/* Of n names: a text of 256 characters with 64 codes and brackets; one in which every character is a code, so that they
+ * are too many; a text of 38 characters; a term of 64 codes. */
+make_call make_bracketed_text, make_bare_text, make_usual_text, make_written_term;
+
 /* A no on the change side by one of the last 64 coalitions: nearly all were looked at. */
 bool is_late_no(uint32_t answer, unsigned n);
 

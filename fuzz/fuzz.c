@@ -76,6 +76,19 @@ static struct term take_term(struct input *in, unsigned n)
     return take(in) < 240 && n <= NAMES ? take_good_term(in, n) : take_any_bytes(in);
 }
 
+/* The rest of the input as a text: mostly as characters of the language, now and then the bytes themselves. */
+static struct term take_text(struct input *in)
+{
+    static const char characters[] = "abcdefghijkl*_()&|><";
+    struct term text = {0};
+    bool themselves = take(in) >= 240;
+    while (in->left > 0 && text.length <= TEXT_MOST) {
+        uint8_t byte = take(in);
+        put_code(&text, themselves ? byte : (uint8_t)characters[byte % (sizeof characters - 1)]);
+    }
+    return text;
+}
+
 /* ---- Ledgers and derivations ---- */
 
 static void put_field(uint8_t *field, uint8_t *length, const struct term *term)
@@ -159,10 +172,10 @@ static void take_derivation(struct input *in, struct ledger *ledger, struct deri
         derivation->length = take_two(in) % (DERIVATION_ROOM + 1);
 }
 
-/* The good length of a buffer, or another near it, or any. */
+/* The good length of a buffer, or another near it, or any; 0 if there is none. */
 static size_t take_buffer_length(struct input *in, size_t good)
 {
-    unsigned draw = take(in);
+    unsigned draw = good > 0 ? take(in) : 0;
     if (draw < 192)
         return good;
     return draw < 255 ? good + draw - 224 : take_two(in) % (BUFFER_ROOM + 1);
@@ -171,22 +184,20 @@ static size_t take_buffer_length(struct input *in, size_t good)
 static void take_call(struct input *in, struct call *call)
 {
     memset(call, 0, sizeof *call);
-    call->operation = (enum operation)(take(in) % C_OPERATIONS);
+    call->operation = performed[take(in) % PERFORMED];
     call->fill = take(in);
     unsigned n = 1 + take_below(in, NAMES);
-    if (call->operation == SHORT_FORM) {
+    call->buffer_length = take_buffer_length(in, buffer_length_of(call->operation));
+    if (call->operation == SHORT_FORM || call->operation == READ_TEXT || call->operation == WRITE_TERM) {
         call->number = n < 256 ? n : take_eight(in);
-        call->p = take_term(in, n);
-        call->buffer_length = take_buffer_length(in, SHORT_FORM_LEAST);
+        call->p = call->operation == READ_TEXT ? take_text(in) : take_term(in, n);
         return;
     }
     take_ledger(in, &call->ledger, n);
     call->label = take_term(in, n);
-    if (call->operation == EXTRACT) {
-        call->buffer_length = take_buffer_length(in, EXTRACT_SIZE);
-    } else if (call->operation == DERIVATION) {
+    if (call->operation == DERIVATION) {
         take_derivation(in, &call->ledger, &call->derivation, n);
-    } else {
+    } else if (call->operation != EXTRACT) {
         call->p = take_term(in, n);
         call->q = take_term(in, n);
     }
@@ -198,7 +209,7 @@ static struct coverage coverage;
 
 static void print_at_end(void)
 {
-    print_coverage(&coverage, C_OPERATIONS, stderr);
+    print_coverage(&coverage, performed, PERFORMED, stderr);
 }
 
 int LLVMFuzzerInitialize(int *count, char ***arguments);

@@ -1,6 +1,6 @@
 /*
  * The numbers of documents 01 and 02 for the reference and the tests: written down a second time, not taken from
- * rights.h. tests/header.c asserts that the two agree.
+ * rights.h. tests/header.c asserts that the two agree on what both have.
  */
 #ifndef NUMBERS_H
 #define NUMBERS_H
@@ -16,7 +16,8 @@ enum {
     SHORT_FORM_LEAST = 3700, /* the buffer */
     STEP = 136,
     STEPS = 64, /* of a derivation, at most */
-    DERIVATION_MOST = 8704
+    DERIVATION_MOST = 8704,
+    TEXT_MOST = 256 /* characters; also the buffer that a term is written to */
 };
 
 enum code { STRONGEST = 0x20, WEAKEST = 0x21, BOTH = 0x30, EITHER = 0x31, SEE_OF = 0x40, CHANGE_OF = 0x41 };

@@ -5,16 +5,12 @@
 #include "reference.h"
 
 #include "numbers.h"
+#include "shared.h"
 
 #include <stdbool.h>
 #include <string.h>
 
 /* ---- Terms ---- */
-
-struct term {
-    const uint8_t *codes;
-    size_t length;
-};
 
 static struct term term_at(const uint8_t *codes, size_t length)
 {
@@ -50,7 +46,7 @@ static bool term_length(size_t length)
     return length >= 1 && length <= CODES;
 }
 
-static unsigned read_term(unsigned n, struct term term)
+unsigned read_term(unsigned n, struct term term)
 {
     if (!term_length(term.length))
         return 1;
@@ -240,7 +236,7 @@ static unsigned read_ledger(const uint8_t *ledger, size_t length, struct grants 
 
 /* ---- Numbers for C ---- */
 
-static uint32_t written(size_t length)
+uint32_t written(size_t length)
 {
     return YES * PER_KIND + (uint32_t)length;
 }
@@ -260,7 +256,7 @@ static uint32_t refused_at(size_t step, unsigned refusal)
     return REFUSED * PER_KIND + (uint32_t)step * PER_STEP + refusal;
 }
 
-static uint32_t refused(unsigned refusal)
+uint32_t refused(unsigned refusal)
 {
     return refused_at(0, refusal);
 }

@@ -1,6 +1,6 @@
 /*
- * The answers of document 01 by a second, plain implementation, for tests and the benchmark. The calls take
- * and give what the calls of rights.h do.
+ * The answers of documents 01 and 02 by a second, plain implementation, for tests and the benchmark. The calls take
+ * and give what the calls of rights.h and of tests/trials.h do.
  */
 #ifndef REFERENCE_H
 #define REFERENCE_H
@@ -22,6 +22,10 @@ uint32_t reference_short_form(uint64_t n, const uint8_t *term, size_t term_len, 
 uint32_t reference_check_derivation(const uint8_t *derivation, size_t derivation_len,
                                     const uint8_t *ledger, size_t ledger_len,
                                     const uint8_t *label, size_t label_len);
+
+uint32_t reference_read_text(uint64_t n, const uint8_t *text, size_t text_len, uint8_t *codes, size_t codes_len);
+
+uint32_t reference_write_term(uint64_t n, const uint8_t *term, size_t term_len, uint8_t *text, size_t text_len);
 
 /* A part of the ledger; an empty one is offset 0, length 0. */
 struct reference_part {

@@ -8,6 +8,12 @@ void put_code(struct term *term, unsigned code)
         term->codes[term->length++] = (uint8_t)code;
 }
 
+void put_codes(struct term *term, unsigned code, unsigned times)
+{
+    while (times-- > 0)
+        put_code(term, code);
+}
+
 void put_term(struct term *term, const struct term *part)
 {
     for (size_t i = 0; i < part->length; i++)
@@ -41,6 +47,13 @@ struct term joined(unsigned code, const struct term *a, const struct term *b)
     struct term term = prefixed(code, a);
     put_term(&term, b);
     return term;
+}
+
+struct term in_brackets(const struct term *text)
+{
+    struct term longer = prefixed('(', text);
+    put_code(&longer, ')');
+    return longer;
 }
 
 static void put_two_bytes(uint8_t *bytes, unsigned value)

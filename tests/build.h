@@ -1,6 +1,6 @@
 /*
- * Terms, ledgers and derivations of document 01, put together piece by piece. There is room for more than
- * a call accepts, since tests need that too.
+ * Terms, ledgers and derivations of document 01, put together piece by piece, and texts of document 02, which stand
+ * where a term does, a character for a code. There is room for more than a call accepts, since tests need that too.
  */
 #ifndef BUILD_H
 #define BUILD_H
@@ -31,8 +31,9 @@ struct derivation {
     uint8_t bytes[DERIVATION_ROOM];
 };
 
-/* One more code; one more term. A term that is full stays as it is. */
+/* One more code; the same code so many times; one more term. A term that is full stays as it is. */
 void put_code(struct term *term, unsigned code);
+void put_codes(struct term *term, unsigned code, unsigned times);
 void put_term(struct term *term, const struct term *part);
 
 /* A term of these codes; of one code; a code and then one term; a code and then two. */
@@ -40,6 +41,9 @@ struct term term_of(const uint8_t *codes, size_t length);
 struct term one_code(unsigned code);
 struct term prefixed(unsigned code, const struct term *part);
 struct term joined(unsigned code, const struct term *a, const struct term *b);
+
+/* A text in brackets. */
+struct term in_brackets(const struct term *text);
 
 /* Block 0 of a ledger without grants; then one more grant, its terms of at most 64 codes. The checks and the
  * count are always right. */

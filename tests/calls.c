@@ -3,12 +3,36 @@
 #include "reference.h"
 
 const char *const operation_names[OPERATIONS] = {
-    "acts-for", "flows-to", "extract", "short form", "derivation", "quoting",
+    "acts-for", "flows-to", "extract", "short form", "derivation", "quoting", "read text", "write term",
 };
+
+const enum operation all_operations[OPERATIONS] = {
+    ACTS_FOR, FLOWS_TO, EXTRACT, SHORT_FORM, DERIVATION, QUOTE, READ_TEXT, WRITE_TERM,
+};
+
+const enum operation performed[PERFORMED] = {
+    ACTS_FOR, FLOWS_TO, EXTRACT, SHORT_FORM, DERIVATION, READ_TEXT, WRITE_TERM,
+};
+
+size_t buffer_length_of(enum operation operation)
+{
+    switch (operation) {
+    case EXTRACT:
+        return EXTRACT_SIZE;
+    case SHORT_FORM:
+        return SHORT_FORM_LEAST;
+    case READ_TEXT:
+        return CODES;
+    case WRITE_TERM:
+        return TEXT_MOST;
+    default:
+        return 0;
+    }
+}
 
 const struct engine reference_engine = {
     "reference", reference_acts_for, reference_flows_to, reference_extract, reference_short_form,
-    reference_check_derivation,
+    reference_check_derivation, reference_read_text, reference_write_term,
 };
 
 static struct slice slice_of_term(const struct term *term)
@@ -39,6 +63,11 @@ static uint32_t ask(question_call *question, const struct request *r)
                     r->label.bytes, r->label.length);
 }
 
+static uint32_t write_from_p(writing_call *call, const struct request *r)
+{
+    return call(r->number, r->p.bytes, r->p.length, r->buffer, r->buffer_length);
+}
+
 uint32_t perform(const struct engine *engine, const struct request *r)
 {
     switch (r->operation) {
@@ -50,7 +79,11 @@ uint32_t perform(const struct engine *engine, const struct request *r)
         return engine->extract(r->ledger.bytes, r->ledger.length, r->label.bytes, r->label.length, r->buffer,
                                r->buffer_length);
     case SHORT_FORM:
-        return engine->short_form(r->number, r->p.bytes, r->p.length, r->buffer, r->buffer_length);
+        return write_from_p(engine->short_form, r);
+    case READ_TEXT:
+        return write_from_p(engine->read_text, r);
+    case WRITE_TERM:
+        return write_from_p(engine->write_term, r);
     default:
         return engine->check_derivation(r->derivation.bytes, r->derivation.length, r->ledger.bytes,
                                         r->ledger.length, r->label.bytes, r->label.length);

@@ -1,30 +1,37 @@
 /*
- * A call with all that it takes, and the two engines that can make it: the library and the reference.
+ * A call with all that it takes, and the two engines that can make it: the library, with the calls of trials.h, and
+ * the reference.
  */
 #ifndef CALLS_H
 #define CALLS_H
 
 #include "build.h"
 
-enum operation { ACTS_FOR, FLOWS_TO, EXTRACT, SHORT_FORM, DERIVATION, QUOTE };
+enum operation { ACTS_FOR, FLOWS_TO, EXTRACT, SHORT_FORM, DERIVATION, QUOTE, READ_TEXT, WRITE_TERM };
 
 enum {
-    C_OPERATIONS = 5, /* those that C calls: all but quoting */
-    OPERATIONS = 6,
+    C_OPERATIONS = 5, /* those that C calls: the first */
+    OPERATIONS = 8,
+    PERFORMED = OPERATIONS - 1, /* those that `perform` makes: all but quoting */
     BUFFER_ROOM = 20000
 };
 
 extern const char *const operation_names[OPERATIONS];
 
+extern const enum operation all_operations[OPERATIONS], performed[PERFORMED];
+
+/* The length of the buffer that an operation takes, the least if it takes several; 0 if it takes none. */
+size_t buffer_length_of(enum operation operation);
+
 /* What a call takes; an operation uses some of it. */
 struct call {
     enum operation operation;
     struct ledger ledger;
-    struct term p; /* of a short form: the term */
+    struct term p; /* of a short form and of writing: the term; of reading: the text */
     struct term q;
     struct term label;
     struct derivation derivation;
-    uint64_t number; /* n of a short form; the step that is quoted */
+    uint64_t number; /* n of a short form, of reading and of writing; the step that is quoted */
     size_t buffer_length;
     uint8_t fill; /* every byte of the buffer before the call */
 };
@@ -49,7 +56,7 @@ struct request request_of(const struct call *call, uint8_t *buffer);
 typedef uint32_t question_call(const uint8_t *, size_t, const uint8_t *, size_t, const uint8_t *, size_t,
                                const uint8_t *, size_t);
 typedef uint32_t extract_call(const uint8_t *, size_t, const uint8_t *, size_t, uint8_t *, size_t);
-typedef uint32_t short_form_call(uint64_t, const uint8_t *, size_t, uint8_t *, size_t);
+typedef uint32_t writing_call(uint64_t, const uint8_t *, size_t, uint8_t *, size_t);
 typedef uint32_t derivation_call(const uint8_t *, size_t, const uint8_t *, size_t, const uint8_t *, size_t);
 
 struct engine {
@@ -57,8 +64,9 @@ struct engine {
     question_call *acts_for;
     question_call *flows_to;
     extract_call *extract;
-    short_form_call *short_form;
+    writing_call *short_form;
     derivation_call *check_derivation;
+    writing_call *read_text, *write_term; /* null in an engine without the calls of trials.h */
 };
 
 extern const struct engine reference_engine;

@@ -3,7 +3,7 @@
  *
  *     compare [CALLS [SEED [SECONDS]]]
  *
- * Fails if anything differs, if an answer of document 01 was never met, or if the calls were not done in time.
+ * Fails if anything differs, if an answer of the documents was never met, or if the calls were not done in time.
  * The library's slices end or start at a page that can't be touched, so a byte read or written outside of
  * one ends the program. An empty slice is a null pointer in every second call.
  */
@@ -147,6 +147,25 @@ static uint32_t compare_call(const struct fences *fences, const struct request *
     return expected;
 }
 
+/* Does a term that was written as a text, the buffer's first bytes, read back to the same codes? */
+static bool reads_back(const struct engine *engine, const struct request *r, uint32_t length)
+{
+    uint8_t codes[CODES];
+    uint32_t number = engine->read_text(r->number, r->buffer, length, codes, sizeof codes);
+    bool same = number == r->p.length && same_bytes(codes, r->p.bytes, r->p.length);
+    if (!same)
+        printf("%s by the %s: reads back to other codes\n", operation_names[r->operation], engine->name);
+    return same;
+}
+
+/* On both engines, the text of a term that was written. After any other call there is nothing to compare. */
+static bool compare_reading_back(const struct request *r, uint32_t number)
+{
+    if (r->operation != WRITE_TERM || number / PER_KIND != YES)
+        return true;
+    return reads_back(&library_engine, r, number) && reads_back(&reference_engine, r, number);
+}
+
 /* ---- Many calls ---- */
 
 static double seconds_now(void)
@@ -170,10 +189,11 @@ static void compare_random_calls(const struct fences *fences, struct run *run)
     double end = seconds_now() + (double)run->seconds;
     while (run->done < run->calls && run->differences < DIFFERENCES_SHOWN && seconds_now() < end) {
         bool same;
-        random_call(&source, (enum operation)(run->done % C_OPERATIONS), &call);
+        random_call(&source, performed[run->done % PERFORMED], &call);
         memset(buffer, call.fill, sizeof buffer);
         struct request request = request_of(&call, buffer);
-        uint32_t number = compare_call(fences, &request, run->done / C_OPERATIONS % 2 == 0, &same);
+        uint32_t number = compare_call(fences, &request, run->done / PERFORMED % 2 == 0, &same);
+        same = same && compare_reading_back(&request, number);
         count_answer(&run->coverage, call.operation, number);
         run->done++;
         if (!same)
@@ -189,14 +209,15 @@ static const size_t four_gigabytes = (size_t)1 << 32;
 /* A call that is accepted, on its own buffer. */
 static void good_call(struct call *call, enum operation operation)
 {
-    static const uint8_t name[1] = {0};
     memset(call, 0, sizeof *call);
     call->operation = operation;
-    call->p = call->q = call->label = term_of(name, 1);
+    call->p = call->q = call->label = one_code(0);
     call->number = 2;
-    call->buffer_length = operation == EXTRACT ? EXTRACT_SIZE : SHORT_FORM_LEAST;
+    call->buffer_length = buffer_length_of(operation);
     start_ledger(&call->ledger, 2);
     add_step(&call->derivation, 1, 0, 0, 0, &call->p, &call->q);
+    if (operation == READ_TEXT)
+        call->p = one_code('a');
 }
 
 /* Makes slice `which` of the request, or else its buffer, 4 GiB longer. */
@@ -219,10 +240,10 @@ static unsigned long compare_huge_lengths(void)
     static uint8_t buffer[BUFFER_ROOM];
     uint8_t *huge = map(four_gigabytes + LEDGER_ROOM, PROT_READ | PROT_WRITE);
     unsigned long differences = 0;
-    for (unsigned i = 0; i < 6 * C_OPERATIONS; i++) {
-        good_call(&call, (enum operation)(i % C_OPERATIONS));
+    for (unsigned i = 0; i < 6 * PERFORMED; i++) {
+        good_call(&call, performed[i % PERFORMED]);
         struct request r = request_of(&call, buffer);
-        lengthen(&r, i / C_OPERATIONS, huge);
+        lengthen(&r, i / PERFORMED, huge);
         uint32_t got = perform(&library_engine, &r);
         uint32_t expected = perform(&reference_engine, &r);
         if (got != expected)
@@ -248,7 +269,7 @@ int main(int count, char **arguments)
     double start = seconds_now();
     run.differences = compare_huge_lengths();
     compare_random_calls(&fences, &run);
-    unsigned missing = print_coverage(&run.coverage, C_OPERATIONS, stdout);
+    unsigned missing = print_coverage(&run.coverage, performed, PERFORMED, stdout);
     printf("library and reference: %lu of %lu calls of seed %lu in %.1f s, %lu differ, %u answers never met\n",
            run.done, run.calls, run.seed, seconds_now() - start, run.differences, missing);
     return run.done < run.calls || run.differences > 0 || missing > 0;

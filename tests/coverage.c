@@ -1,17 +1,19 @@
 #include "coverage.h"
 
-/* The refusals of each operation, as document 01 lists them; 0 ends a list. */
+/* The refusals of each operation, as the documents list them; 0 ends a list. */
 static const uint8_t refusals[OPERATIONS][24] = {
     [ACTS_FOR] = {10, 11, 12, 13, 14, 21, 22, 23, 24, 31, 32, 33, 34, 41, 42, 43, 44},
     [FLOWS_TO] = {10, 11, 12, 13, 14, 21, 22, 23, 24, 31, 32, 33, 34, 41, 42, 43, 44},
     [EXTRACT] = {51, 10, 11, 12, 13, 14, 41, 42, 43, 44},
     [SHORT_FORM] = {7, 8, 1, 2, 3, 4},
     [DERIVATION] = {10, 11, 12, 13, 14, 41, 42, 43, 44, 60, 61, 62, 63, 64, 65, 66, 67},
+    [READ_TEXT] = {7, 81, 82, 83},
+    [WRITE_TERM] = {7, 81, 1, 2, 3, 4},
 };
 
 bool is_refusal(unsigned number)
 {
-    for (unsigned operation = 0; operation < OPERATIONS; operation++)
+    for (unsigned operation = 0; operation < C_OPERATIONS; operation++)
         for (const uint8_t *r = refusals[operation]; *r != 0; r++)
             if (*r == number)
                 return true;
@@ -76,10 +78,10 @@ static unsigned print_operation(const struct coverage *coverage, unsigned operat
     return missing;
 }
 
-unsigned print_coverage(const struct coverage *coverage, unsigned operations, FILE *to)
+unsigned print_coverage(const struct coverage *coverage, const enum operation *operations, unsigned count, FILE *to)
 {
     unsigned missing = 0;
-    for (unsigned operation = 0; operation < operations; operation++)
-        missing += print_operation(coverage, operation, to);
+    for (unsigned i = 0; i < count; i++)
+        missing += print_operation(coverage, operations[i], to);
     return missing;
 }

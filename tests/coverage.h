@@ -1,5 +1,5 @@
 /*
- * How often each operation gave each kind of answer and each refusal of document 01.
+ * How often each operation gave each kind of answer and each refusal of documents 01 and 02.
  */
 #ifndef COVERAGE_H
 #define COVERAGE_H
@@ -15,16 +15,16 @@ struct coverage {
     unsigned long refused[OPERATIONS][256];
 };
 
-/* Is this the number of a refusal, of any operation? */
+/* Is this the number of a refusal, of any operation that C calls? */
 bool is_refusal(unsigned number);
 
-/* Counts the answer that an operation of C gave. */
+/* Counts the answer that an operation gave, any but quoting. */
 void count_answer(struct coverage *coverage, enum operation operation, uint32_t number);
 
 void count_quote(struct coverage *coverage, size_t length);
 
-/* Prints a line for each operation, up to `operations` of them, and gives how many answers that document 01
- * has for them were never met; these are named. */
-unsigned print_coverage(const struct coverage *coverage, unsigned operations, FILE *to);
+/* Prints a line for each of these operations, and gives how many answers that the documents have for them were
+ * never met; these are named. */
+unsigned print_coverage(const struct coverage *coverage, const enum operation *operations, unsigned count, FILE *to);
 
 #endif

@@ -79,26 +79,44 @@ static void put_random_leaf(struct source *s, struct term *term, unsigned n)
         put_code(term, below(s, n));
 }
 
+/* Which part of a joiner has all the codes but one. */
+enum lean { NEITHER, LEFT, RIGHT };
+
+static unsigned size_of_left_part(struct source *s, unsigned size, enum lean lean)
+{
+    if (lean == NEITHER)
+        return between(s, 1, size - 2);
+    return lean == LEFT ? size - 2 : 1;
+}
+
 /* A term of just so many codes. */
-static void put_random_part(struct source *s, struct term *term, unsigned n, unsigned size)
+static void put_random_part(struct source *s, struct term *term, unsigned n, unsigned size, enum lean lean)
 {
     if (size == 1) {
         put_random_leaf(s, term, n);
     } else if (size == 2 || one_in(s, 6)) {
         put_code(term, SEE_OF + below(s, 2));
-        put_random_part(s, term, n, size - 1);
+        put_random_part(s, term, n, size - 1, lean);
     } else {
-        unsigned first = between(s, 1, size - 2);
+        unsigned first = size_of_left_part(s, size, lean);
         put_code(term, BOTH + below(s, 2));
-        put_random_part(s, term, n, first);
-        put_random_part(s, term, n, size - 1 - first);
+        put_random_part(s, term, n, first, lean);
+        put_random_part(s, term, n, size - 1 - first, lean);
     }
 }
 
 static struct term random_term(struct source *s, unsigned n, unsigned size)
 {
     struct term term = {0};
-    put_random_part(s, &term, n, size);
+    put_random_part(s, &term, n, size, NEITHER);
+    return term;
+}
+
+/* A term that may lean to one side. */
+static struct term leaning_term(struct source *s, unsigned n, unsigned size)
+{
+    struct term term = {0};
+    put_random_part(s, &term, n, size, (enum lean)below(s, 3));
     return term;
 }
 
@@ -169,10 +187,7 @@ static unsigned bad_code(struct source *s, unsigned n)
 /* Over 64 codes; some lengths are good if only their low byte is looked at. */
 static struct term too_long(struct source *s, unsigned n)
 {
-    struct term term = {0};
-    unsigned size = one_in(s, 2) ? between(s, 65, 67) : between(s, 257, 320);
-    put_random_part(s, &term, n, size);
-    return term;
+    return random_term(s, n, one_in(s, 2) ? between(s, 65, 67) : between(s, 257, 320));
 }
 
 static struct term random_bytes(struct source *s)
@@ -228,6 +243,209 @@ static void maybe_damage_term(struct source *s, struct term *term, unsigned n)
 {
     if (one_in(s, 12))
         damage_term(s, term, n);
+}
+
+/* ---- Texts ---- */
+
+static unsigned random_sign(struct source *s)
+{
+    return one_in(s, 2) ? '>' : '<';
+}
+
+static unsigned random_joiner(struct source *s)
+{
+    return one_in(s, 2) ? '&' : '|';
+}
+
+/* Which list a code makes: 2 an either, 1 a both, 0 none. */
+static unsigned rank_of(uint8_t code)
+{
+    return code == EITHER ? 2 : code == BOTH ? 1 : 0;
+}
+
+static unsigned character_of(uint8_t code)
+{
+    return code == STRONGEST ? '*' : code == WEAKEST ? '_' : 'a' + (unsigned)code;
+}
+
+static void put_leaf(struct source *s, struct term *text, unsigned n)
+{
+    struct term leaf = random_term(s, n, 1);
+    put_code(text, character_of(leaf.codes[0]));
+}
+
+/* Puts the text of the part at a place; gives the place behind it. A part of higher rank than this is in brackets,
+ * and one in so many parts is in brackets that it doesn't need. */
+static size_t put_text(struct source *s, struct term *text, const struct term *term, size_t at, unsigned rank,
+                       unsigned one_in_so_many)
+{
+    uint8_t code = term->codes[at++];
+    unsigned own = rank_of(code), brackets = own > rank;
+    if (one_in(s, one_in_so_many))
+        brackets += between(s, 1, 3);
+    put_codes(text, '(', brackets);
+    if (own > 0) {
+        at = put_text(s, text, term, at, own, one_in_so_many);
+        put_code(text, code == BOTH ? '&' : '|');
+        at = put_text(s, text, term, at, own - 1, one_in_so_many);
+    } else if (code == SEE_OF || code == CHANGE_OF) {
+        at = put_text(s, text, term, at, 0, one_in_so_many);
+        put_code(text, code == SEE_OF ? '>' : '<');
+    } else {
+        put_code(text, character_of(code));
+    }
+    put_codes(text, ')', brackets);
+    return at;
+}
+
+/* A text of so many codes. */
+static struct term text_of_size(struct source *s, unsigned n, unsigned size)
+{
+    static const uint8_t seldom_or_often[] = {2, 5, 20, 200};
+    struct term term = leaning_term(s, n, size), text = {0};
+    put_text(s, &text, &term, 0, 2, seldom_or_often[below(s, sizeof seldom_or_often)]);
+    return text;
+}
+
+/* A text of just this length without brackets, so that every character is a code. */
+static struct term bare_text(struct source *s, unsigned n, unsigned length)
+{
+    unsigned one_sign_in = between(s, 1, 6);
+    struct term text = {0};
+    put_leaf(s, &text, n);
+    while (text.length < length)
+        if (text.length + 1 == length || one_in(s, one_sign_in)) {
+            put_code(&text, random_sign(s));
+        } else {
+            put_code(&text, random_joiner(s));
+            put_leaf(s, &text, n);
+        }
+    return text;
+}
+
+/* A text of just this length, unless it was longer: brackets around it, and a few signs. */
+static struct term bracketed_text(struct source *s, unsigned n, unsigned length)
+{
+    struct term text = text_of_size(s, n, random_size(s));
+    while (text.length < length)
+        if (text.length + 1 == length || one_in(s, 24))
+            put_code(&text, random_sign(s));
+        else
+            text = in_brackets(&text);
+    return text;
+}
+
+static struct term random_text(struct source *s, unsigned n)
+{
+    static const uint16_t lengths[] = {64, 65, 128, 255, 256, 257};
+    unsigned length = lengths[below(s, sizeof lengths / sizeof *lengths)];
+    switch (below(s, 8)) {
+    case 0:
+        return bare_text(s, n, length);
+    case 1:
+        return bracketed_text(s, n, length);
+    case 2:
+        return text_of_size(s, n, between(s, CODES, CODES + 1));
+    case 3:
+        return text_of_size(s, n, between(s, CODES - 6, 2 * CODES));
+    default:
+        return text_of_size(s, n, random_size(s));
+    }
+}
+
+/* ---- Damaged texts ---- */
+
+/* Mostly a character of the language. */
+static unsigned any_character(struct source *s)
+{
+    static const char characters[] = "abcdefghijkl*_()&|<>";
+    unsigned draw = below(s, 24);
+    if (draw < sizeof characters - 1)
+        return (uint8_t)characters[draw];
+    return draw < 22 ? ' ' : any_byte(s);
+}
+
+static struct term random_characters(struct source *s)
+{
+    struct term text = {0};
+    unsigned length = one_in(s, 2) ? below(s, 10) : below(s, 280);
+    for (unsigned i = 0; i < length; i++)
+        put_code(&text, any_character(s));
+    return text;
+}
+
+/* What is no name, for a name: the first after n, a capital letter, a letter with the high bit, a space. */
+static unsigned bad_name(struct source *s, unsigned name, unsigned n)
+{
+    switch (below(s, 4)) {
+    case 0:
+        return 'a' + n;
+    case 1:
+        return name - 'a' + 'A';
+    case 2:
+        return name | 0x80;
+    default:
+        return ' ';
+    }
+}
+
+/* The first name from a place on. */
+static void spoil_name(struct source *s, struct term *text, size_t place, unsigned n)
+{
+    while (place < text->length && (text->codes[place] < 'a' || text->codes[place] >= 'a' + NAMES))
+        place++;
+    if (place < text->length)
+        text->codes[place] = (uint8_t)bad_name(s, text->codes[place], n);
+}
+
+/* Puts a character before the one at a place, or at the end. */
+static void insert_character(struct term *text, size_t place, unsigned character)
+{
+    struct term longer = term_of(text->codes, place);
+    put_code(&longer, character);
+    for (size_t i = place; i < text->length; i++)
+        put_code(&longer, text->codes[i]);
+    *text = longer;
+}
+
+static void drop_character(struct term *text, size_t place)
+{
+    text->length--;
+    memmove(text->codes + place, text->codes + place + 1, text->length - place);
+}
+
+static void damage_text(struct source *s, struct term *text, unsigned n)
+{
+    unsigned length = (unsigned)text->length, place = below(s, length);
+    switch (below(s, 10)) {
+    case 0:
+        text->length = 0;
+        break;
+    case 1:
+        text->codes[place] = (uint8_t)any_character(s);
+        break;
+    case 2:
+        drop_character(text, place);
+        break;
+    case 3:
+        insert_character(text, place, any_character(s));
+        break;
+    case 4:
+        insert_character(text, place, text->codes[place]);
+        break;
+    case 5: /* at one of the ends, or anywhere */
+        place = edge_or_between(s, 0, length);
+        insert_character(text, place, one_in(s, 2) ? '(' : ')');
+        break;
+    case 6: /* its beginning alone */
+        text->length = place;
+        break;
+    case 7:
+        *text = random_characters(s);
+        break;
+    default:
+        spoil_name(s, text, place, n);
+    }
 }
 
 /* ---- Ledgers ---- */
@@ -762,56 +980,98 @@ static uint64_t random_quoted_step(struct source *s, const struct derivation *d)
 
 /* ---- Calls ---- */
 
-static void random_short_form(struct source *s, struct call *call)
+static void maybe_spoil_names(struct source *s, struct call *call)
 {
     static const uint64_t bad_names[] = {0, 13, 255, 258, 65538, 0x100000002, 0x8000000000000001, UINT64_MAX};
-    static const uint16_t bad_lengths[] = {0, 1, 4, 924, 1024, 1850, 3698, 3699};
+    if (one_in(s, 12))
+        call->number = bad_names[below(s, sizeof bad_names / sizeof *bad_names)];
+}
+
+/* Now and then another length of the buffer, one of eight. */
+static void maybe_spoil_buffer(struct source *s, struct call *call, const uint16_t bad_lengths[8])
+{
+    if (one_in(s, 12))
+        call->buffer_length = bad_lengths[below(s, 8)];
+}
+
+static void random_short_form(struct source *s, struct call *call)
+{
+    static const uint16_t bad_lengths[8] = {0, 1, 4, 924, 1024, 1850, 3698, 3699};
     unsigned n = random_names(s);
     call->number = n;
     call->p = one_in(s, 3) ? many_ways(s, n) : random_term(s, n, random_size(s));
-    call->buffer_length = one_in(s, 2) ? SHORT_FORM_LEAST : between(s, SHORT_FORM_LEAST + 1, BUFFER_ROOM);
-    if (one_in(s, 12))
-        call->number = bad_names[below(s, sizeof bad_names / sizeof *bad_names)];
-    if (one_in(s, 12))
-        call->buffer_length = bad_lengths[below(s, sizeof bad_lengths / sizeof *bad_lengths)];
+    if (one_in(s, 2))
+        call->buffer_length = between(s, SHORT_FORM_LEAST + 1, BUFFER_ROOM);
+    maybe_spoil_names(s, call);
+    maybe_spoil_buffer(s, call, bad_lengths);
+    if (one_in(s, 3))
+        damage_term(s, &call->p, n);
+}
+
+static void random_reading(struct source *s, struct call *call)
+{
+    static const uint16_t bad_lengths[8] = {0, 63, 65, 128, 255, 256, 257, 320};
+    unsigned n = between(s, 1, NAMES);
+    call->number = n;
+    call->p = random_text(s, n);
+    maybe_spoil_names(s, call);
+    maybe_spoil_buffer(s, call, bad_lengths);
+    if (one_in(s, 3))
+        damage_text(s, &call->p, n);
+}
+
+static void random_writing(struct source *s, struct call *call)
+{
+    static const uint16_t bad_lengths[8] = {0, 63, 64, 65, 192, 255, 257, 512};
+    unsigned n = between(s, 1, NAMES);
+    call->number = n;
+    call->p = leaning_term(s, n, one_in(s, 2) ? random_size(s) : edge_or_between(s, CODES - 4, CODES));
+    maybe_spoil_names(s, call);
+    maybe_spoil_buffer(s, call, bad_lengths);
     if (one_in(s, 3))
         damage_term(s, &call->p, n);
 }
 
 static void random_extract(struct source *s, struct call *call)
 {
-    static const uint16_t bad_lengths[] = {0, 1, 512, 1023, 1025, 2048, 3700};
-    call->buffer_length = EXTRACT_SIZE;
-    if (one_in(s, 16))
-        call->buffer_length = bad_lengths[below(s, sizeof bad_lengths / sizeof *bad_lengths)];
+    static const uint16_t bad_lengths[8] = {0, 1, 512, 1023, 1025, 2048, 3700, 8192};
+    maybe_spoil_buffer(s, call, bad_lengths);
 }
 
-void random_call(struct source *s, enum operation operation, struct call *call)
+static void random_call_on_ledger(struct source *s, struct call *call)
 {
     unsigned n = random_names(s);
-    call->operation = operation;
-    call->p.length = call->q.length = call->label.length = call->ledger.length = call->derivation.length = 0;
-    call->buffer_length = 0;
-    call->number = 0;
-    call->fill = any_byte(s);
-    if (operation == SHORT_FORM) {
-        random_short_form(s, call);
-        return;
-    }
     random_ledger(s, &call->ledger, n);
     call->label = random_label(s, &call->ledger, n);
     maybe_damage_term(s, &call->label, n);
-    if (operation == ACTS_FOR || operation == FLOWS_TO) {
+    if (call->operation == ACTS_FOR || call->operation == FLOWS_TO) {
         random_question(s, call, n);
         maybe_damage_term(s, &call->p, n);
         maybe_damage_term(s, &call->q, n);
-    } else if (operation == EXTRACT) {
+    } else if (call->operation == EXTRACT) {
         random_extract(s, call);
     } else {
         random_derivation(s, call, n);
         maybe_damage_derivation(s, &call->derivation, n);
     }
-    if (operation == QUOTE)
+    if (call->operation == QUOTE)
         call->number = random_quoted_step(s, &call->derivation);
     maybe_damage_ledger(s, &call->ledger, n);
+}
+
+void random_call(struct source *s, enum operation operation, struct call *call)
+{
+    call->operation = operation;
+    call->p.length = call->q.length = call->label.length = call->ledger.length = call->derivation.length = 0;
+    call->buffer_length = buffer_length_of(operation);
+    call->number = 0;
+    call->fill = any_byte(s);
+    if (operation == SHORT_FORM)
+        random_short_form(s, call);
+    else if (operation == READ_TEXT)
+        random_reading(s, call);
+    else if (operation == WRITE_TERM)
+        random_writing(s, call);
+    else
+        random_call_on_ledger(s, call);
 }

@@ -1,6 +1,7 @@
 /*
- * How much stack the library's calls take: the most over random calls and over calls with the deepest terms.
- * Fails if it is more than rights.h says.
+ * How much stack the library's calls take: the most over random calls and over calls with the deepest terms and
+ * texts. Fails if it is more than rights.h says, or, of the calls of trials.h, which C does not get, more than is
+ * said here.
  */
 #define _DEFAULT_SOURCE /* MAP_ANONYMOUS */
 #include "random_calls.h"
@@ -12,7 +13,7 @@
 #include <string.h>
 #include <sys/mman.h>
 
-enum { STACK = 1 << 19, PAINT = 0xA5, RANDOM_CALLS = 500 };
+enum { STACK = 1 << 19, PAINT = 0xA5, RANDOM_CALLS = 500, TRIALS_STACK_BYTES = 65536 };
 
 static void fail(const char *what)
 {
@@ -44,24 +45,48 @@ static size_t stack_of_thread(uint8_t *stack, struct request *request)
     return STACK - untouched;
 }
 
-/* The deepest term: 63 projections of a name. */
-static struct term deepest(void)
+/* What the deepest terms and texts are nested by: signs, joiners to the left, joiners to the right; of a text the last
+ * is brackets alone. */
+enum shape { SIGNS, LEFT, RIGHT, SHAPES };
+
+static struct term deepest_term(enum shape shape)
 {
-    struct term term = {0};
-    for (unsigned i = 0; i < CODES - 1; i++)
-        put_code(&term, CHANGE_OF);
-    put_code(&term, 0);
-    return term;
+    struct term name = one_code(0), term = name;
+    while (term.length < CODES - 1)
+        if (shape == SIGNS)
+            term = prefixed(CHANGE_OF, &term);
+        else if (shape == LEFT)
+            term = joined(EITHER, &term, &name);
+        else
+            term = joined(EITHER, &name, &term);
+    return prefixed(CHANGE_OF, &term);
 }
 
-static void deepest_call(enum operation operation, struct call *call)
+static struct term deepest_text(enum shape shape)
 {
-    struct term term = deepest();
+    struct term text = one_code('a');
+    while (text.length < TEXT_MOST - 1)
+        if (shape == SIGNS) {
+            put_code(&text, '<');
+        } else if (shape == LEFT) {
+            put_code(&text, '|');
+            put_code(&text, 'a');
+        } else {
+            text = in_brackets(&text);
+        }
+    put_code(&text, '<');
+    return text;
+}
+
+static void deepest_call(enum operation operation, enum shape shape, struct call *call)
+{
+    struct term term = deepest_term(shape);
     memset(call, 0, sizeof *call);
     call->operation = operation;
-    call->p = call->q = call->label = term;
+    call->q = call->label = term;
+    call->p = operation == READ_TEXT ? deepest_text(shape) : term;
     call->number = NAMES;
-    call->buffer_length = operation == EXTRACT ? EXTRACT_SIZE : SHORT_FORM_LEAST;
+    call->buffer_length = buffer_length_of(operation);
     start_ledger(&call->ledger, NAMES);
     for (unsigned i = 0; i < GRANTS; i++)
         add_grant(&call->ledger, &term, &term, &term);
@@ -80,29 +105,38 @@ static size_t stack_of_operation(uint8_t *stack, enum operation operation)
     static struct call call;
     static uint8_t buffer[BUFFER_ROOM];
     struct source source = {3};
-    struct request request;
-    deepest_call(operation, &call);
-    request = request_of(&call, buffer);
-    size_t used = stack_of_thread(stack, &request);
-    for (unsigned i = 0; i < RANDOM_CALLS; i++) {
-        random_call(&source, operation, &call);
-        request = request_of(&call, buffer);
+    size_t used = 0;
+    for (unsigned i = 0; i < SHAPES + RANDOM_CALLS; i++) {
+        if (i < SHAPES)
+            deepest_call(operation, (enum shape)i, &call);
+        else
+            random_call(&source, operation, &call);
+        struct request request = request_of(&call, buffer);
         used = most(used, stack_of_thread(stack, &request));
     }
     return used - stack_of_thread(stack, NULL);
 }
 
+/* The most over these operations, of which each has its line. */
+static size_t stack_of_operations(uint8_t *stack, const enum operation *operations, unsigned count)
+{
+    size_t used = 0;
+    for (unsigned i = 0; i < count; i++) {
+        size_t of_this = stack_of_operation(stack, operations[i]);
+        printf("%-11s %6zu bytes of stack\n", operation_names[operations[i]], of_this);
+        used = most(used, of_this);
+    }
+    return used;
+}
+
 int main(void)
 {
     uint8_t *stack = mmap(NULL, STACK, PROT_READ | PROT_WRITE, MAP_PRIVATE | MAP_ANONYMOUS, -1, 0);
-    size_t used = 0;
     if (stack == MAP_FAILED)
         fail("mmap");
-    for (unsigned operation = 0; operation < C_OPERATIONS; operation++) {
-        size_t of_this = stack_of_operation(stack, (enum operation)operation);
-        printf("%-11s %6zu bytes of stack\n", operation_names[operation], of_this);
-        used = most(used, of_this);
-    }
+    size_t used = stack_of_operations(stack, performed, C_OPERATIONS);
     printf("at most %zu bytes of stack; rights.h says less than %d\n", used, RIGHTS_STACK_BYTES);
-    return used >= RIGHTS_STACK_BYTES;
+    size_t by_trials = stack_of_operations(stack, performed + C_OPERATIONS, PERFORMED - C_OPERATIONS);
+    printf("calls of trials.h: at most %zu bytes of stack; less than %d is asked\n", by_trials, TRIALS_STACK_BYTES);
+    return used >= RIGHTS_STACK_BYTES || by_trials >= TRIALS_STACK_BYTES;
 }

@@ -1,6 +1,6 @@
 /*
- * The worked cases A to L of document 01, and the short form's buffer by K12 of document 02, on the reference and on
- * the library.
+ * The worked cases A to L of document 01, and of document 02 the short form's buffer by K12 and the notation by K1, on
+ * the reference and on the library.
  */
 #include "calls.h"
 
@@ -118,23 +118,40 @@ static void case_of_extract(const struct engine *e)
     expect(e, "H", extract_is(e, &p, 0x0F));
 }
 
-/* The short form is the expected bytes, and the bytes after them are kept. */
-static bool short_form_is(const struct engine *e, const char *term, const char *expected)
+/* On a buffer of this length the call gives the number and writes the expected bytes; all others are kept. */
+static bool leaves(writing_call *call, uint64_t n, const struct term *from, size_t buffer_length, uint32_t number,
+                   const uint8_t *expected, size_t length)
 {
-    static uint8_t buffer[SHORT_FORM_LEAST], after[SHORT_FORM_LEAST];
-    struct term t = codes(term), bytes = codes(expected);
+    static uint8_t buffer[BUFFER_ROOM], after[BUFFER_ROOM];
     memset(buffer, 0xAA, sizeof buffer);
     memset(after, 0xAA, sizeof after);
-    memcpy(after, bytes.codes, bytes.length);
-    return e->short_form(2, t.codes, t.length, buffer, sizeof buffer) == bytes.length
+    memcpy(after, expected, length);
+    return call(n, from->codes, from->length, buffer, buffer_length) == number
         && memcmp(buffer, after, sizeof buffer) == 0;
+}
+
+static bool writes(writing_call *call, uint64_t n, const struct term *from, size_t buffer_length,
+                   const struct term *expected)
+{
+    return leaves(call, n, from, buffer_length, (uint32_t)expected->length, expected->codes, expected->length);
+}
+
+static bool refuses(writing_call *call, uint64_t n, const struct term *from, size_t buffer_length, unsigned refusal)
+{
+    return leaves(call, n, from, buffer_length, refused(refusal), from->codes, 0);
+}
+
+static bool short_form_is(const struct engine *e, uint64_t n, const char *term, const char *expected)
+{
+    struct term t = codes(term), bytes = codes(expected);
+    return writes(e->short_form, n, &t, SHORT_FORM_LEAST, &bytes);
 }
 
 static void cases_of_short_form(const struct engine *e)
 {
-    expect(e, "A", short_form_is(e, "31 40 00 41 01", "00 01 00 00 00 01 00 00"));
-    expect(e, "K", short_form_is(e, "31 00 30 00 01", "00 01 00 01 00 01 00 01"));
-    expect(e, "K", short_form_is(e, "20", "00 00 00 00"));
+    expect(e, "A", short_form_is(e, 2, "31 40 00 41 01", "00 01 00 00 00 01 00 00"));
+    expect(e, "K", short_form_is(e, 2, "31 00 30 00 01", "00 01 00 01 00 01 00 01"));
+    expect(e, "K", short_form_is(e, 2, "20", "00 00 00 00"));
 }
 
 /* The refusal of a term in a job of two names; 0 if it passes. */
@@ -148,8 +165,7 @@ static uint32_t refusal_of_term(const struct engine *e, const struct term *t)
 static struct term nested(unsigned projections)
 {
     struct term term = {0};
-    for (unsigned i = 0; i < projections; i++)
-        put_code(&term, SEE_OF);
+    put_codes(&term, SEE_OF, projections);
     put_code(&term, 0);
     return term;
 }
@@ -179,28 +195,21 @@ static void case_of_refusals(const struct engine *e)
 
 /* ---- K12: a buffer of 3,700 bytes ---- */
 
-/* What a short form of the term gives on a buffer of this length, of which a refused call keeps every byte. */
-static uint32_t short_form_on(const struct engine *e, uint64_t n, const char *term, size_t length)
+static bool one_byte_less(const struct engine *e, uint64_t n, const char *term, unsigned refusal)
 {
-    static uint8_t buffer[SHORT_FORM_LEAST], before[SHORT_FORM_LEAST];
     struct term t = codes(term);
-    memset(buffer, 0xAA, sizeof buffer);
-    memset(before, 0xAA, sizeof before);
-    uint32_t number = e->short_form(n, t.codes, t.length, buffer, length);
-    if (number / PER_KIND == REFUSED)
-        expect(e, "K12", memcmp(buffer, before, sizeof buffer) == 0);
-    return number;
+    return refuses(e->short_form, n, &t, SHORT_FORM_LEAST - 1, refusal);
 }
 
 static void case_of_buffer(const struct engine *e)
 {
     for (unsigned n = 1; n <= NAMES; n++) {
-        expect(e, "K12", short_form_on(e, n, "21", SHORT_FORM_LEAST) == 8);
-        expect(e, "K12", short_form_on(e, n, "21", SHORT_FORM_LEAST - 1) == refused(8));
-        expect(e, "K12", short_form_on(e, n, "FF", SHORT_FORM_LEAST - 1) == refused(8));
+        expect(e, "K12", short_form_is(e, n, "21", "00 01 00 00 00 01 00 00"));
+        expect(e, "K12", one_byte_less(e, n, "21", 8));
+        expect(e, "K12", one_byte_less(e, n, "FF", 8));
     }
-    expect(e, "K12", short_form_on(e, 0, "21", SHORT_FORM_LEAST - 1) == refused(7));
-    expect(e, "K12", short_form_on(e, 13, "21", SHORT_FORM_LEAST - 1) == refused(7));
+    expect(e, "K12", one_byte_less(e, 0, "21", 7));
+    expect(e, "K12", one_byte_less(e, 13, "21", 7));
 }
 
 static unsigned members(unsigned coalition)
@@ -223,21 +232,125 @@ static void case_of_many_coalitions(const struct engine *e)
 {
     struct term t = codes("30 31 30 31 31 00 01 02 31 30 03 04 30 05 31 03 04 30 31 30 00 01 30 02 31 00 01 31 31 03 04 05 "
                           "31 30 31 31 06 07 08 31 30 09 0A 30 0B 31 09 0A 30 31 30 06 07 30 08 31 06 07 31 31 09 0A 0B");
-    static uint8_t buffer[SHORT_FORM_LEAST], after[SHORT_FORM_LEAST];
+    static uint8_t expected[SHORT_FORM_LEAST];
     size_t end = 0;
-    memset(buffer, 0xAA, sizeof buffer);
-    memset(after, 0xAA, sizeof after);
     for (unsigned side = SEE; side <= CHANGE; side++) {
-        after[end++] = 324 / 256;
-        after[end++] = 324 % 256;
+        expected[end++] = 324 / 256;
+        expected[end++] = 324 % 256;
         for (unsigned c = 0; c < 1u << NAMES; c++)
             if (three_of_two_halves(c % 64) && three_of_two_halves(c / 64)) {
-                after[end++] = (uint8_t)(c / 256);
-                after[end++] = (uint8_t)(c % 256);
+                expected[end++] = (uint8_t)(c / 256);
+                expected[end++] = (uint8_t)(c % 256);
             }
     }
-    expect(e, "K12", e->short_form(NAMES, t.codes, t.length, buffer, sizeof buffer) == end);
-    expect(e, "K12", memcmp(buffer, after, sizeof buffer) == 0);
+    expect(e, "K12", leaves(e->short_form, NAMES, &t, SHORT_FORM_LEAST, (uint32_t)end, expected, end));
+}
+
+/* ---- K1: a written notation ---- */
+
+/* A text, then so many of one character more. */
+static struct term text(const char *start, unsigned times, char more)
+{
+    struct term t = {0};
+    for (; *start != 0; start++)
+        put_code(&t, (uint8_t)*start);
+    put_codes(&t, (uint8_t)more, times);
+    return t;
+}
+
+static void reads(const struct engine *e, uint64_t n, const char *start, const char *expected)
+{
+    struct term t = text(start, 0, 0), bytes = codes(expected);
+    expect(e, "K1", writes(e->read_text, n, &t, CODES, &bytes));
+}
+
+static void refuses_text(const struct engine *e, uint64_t n, struct term t, size_t buffer_length, unsigned refusal)
+{
+    expect(e, "K1", refuses(e->read_text, n, &t, buffer_length, refusal));
+}
+
+static void cases_of_reading(const struct engine *e)
+{
+    static const char *const no_texts[] = {"c", "()", "a&", ">a", "a b", "A", "(a", "a)", "\xE1", "a\n"};
+    reads(e, 3, "a|b|c", "31 31 00 01 02");
+    reads(e, 3, "a|(b|c)", "31 00 31 01 02");
+    reads(e, 3, "a|b&c", "31 00 30 01 02");
+    reads(e, 2, "a&b>", "30 00 40 01");
+    reads(e, 2, "(a&b)><", "41 40 30 00 01");
+    reads(e, 12, "*&l|_", "31 30 20 0B 21");
+    for (unsigned i = 0; i < sizeof no_texts / sizeof *no_texts; i++)
+        refuses_text(e, 2, text(no_texts[i], 0, 0), CODES, 82);
+    refuses_text(e, 12, text("m", 0, 0), CODES, 82);
+}
+
+/* Lengths of texts, of codes and of buffers, and which refusal comes first. */
+static void cases_of_lengths_read(const struct engine *e)
+{
+    struct term longest = text("a", 63, '>'), expected = nested(63), spoiled = text("a", 64, '>'), empty = {0};
+    expect(e, "K1", writes(e->read_text, 1, &longest, CODES, &expected));
+    put_code(&spoiled, '&');
+    refuses_text(e, 1, spoiled, CODES, 82);
+    refuses_text(e, 1, text("&a", 64, '>'), CODES, 82);
+    refuses_text(e, 1, text("a", 64, '>'), CODES, 83);
+    refuses_text(e, 1, text("a", 255, '>'), CODES, 83);
+    refuses_text(e, 1, text("a", 256, '>'), CODES, 81);
+    refuses_text(e, 1, text("", 257, ')'), CODES, 81);
+    refuses_text(e, 1, empty, CODES, 81);
+    refuses_text(e, 1, text("a", 0, 0), CODES - 1, 81);
+    refuses_text(e, 1, text("a", 0, 0), CODES + 1, 81);
+    refuses_text(e, 0, empty, CODES, 7);
+    refuses_text(e, 13, empty, CODES, 7);
+    refuses_text(e, 0, empty, CODES + 1, 7);
+}
+
+/* 256 characters and two codes: a in 127 brackets, and a sign. */
+static void case_of_brackets(const struct engine *e)
+{
+    struct term t = text("a", 0, 0), expected = nested(1);
+    for (unsigned i = 0; i < 127; i++)
+        t = in_brackets(&t);
+    put_code(&t, '>');
+    expect(e, "K1", t.length == TEXT_MOST && writes(e->read_text, 1, &t, CODES, &expected));
+}
+
+/* The term is written as this text, and the text is read to the term. */
+static void both_ways(const struct engine *e, uint64_t n, const char *term, const char *expected)
+{
+    struct term t = codes(term), characters = text(expected, 0, 0);
+    expect(e, "K1", writes(e->write_term, n, &t, TEXT_MOST, &characters));
+    reads(e, n, expected, term);
+}
+
+static void refuses_term(const struct engine *e, uint64_t n, const char *term, size_t buffer_length, unsigned refusal)
+{
+    struct term t = codes(term);
+    expect(e, "K1", refuses(e->write_term, n, &t, buffer_length, refusal));
+}
+
+static void cases_of_writing(const struct engine *e)
+{
+    struct term longest = nested(63), expected = text("a", 63, '>'), longer = nested(64);
+    both_ways(e, 3, "30 31 00 01 02", "(a|b)&c");
+    both_ways(e, 3, "30 00 30 01 02", "a&(b&c)");
+    both_ways(e, 3, "31 31 00 01 02", "a|b|c");
+    both_ways(e, 2, "40 41 00", "a<>");
+    both_ways(e, 3, "30 00 31 01 02", "a&(b|c)");
+    both_ways(e, 3, "31 00 31 01 02", "a|(b|c)");
+    both_ways(e, 3, "30 30 00 01 02", "a&b&c");
+    both_ways(e, 4, "31 30 00 01 30 02 03", "a&b|c&d");
+    both_ways(e, 2, "40 30 00 01", "(a&b)>");
+    both_ways(e, 2, "41 31 20 21", "(*|_)<");
+    expect(e, "K1", writes(e->write_term, 1, &longest, TEXT_MOST, &expected));
+    expect(e, "K1", refuses(e->write_term, 1, &longer, TEXT_MOST, 1));
+    refuses_term(e, 2, "", TEXT_MOST, 1);
+    refuses_term(e, 2, "02", TEXT_MOST, 2);
+    refuses_term(e, 2, "30 00", TEXT_MOST, 3);
+    refuses_term(e, 2, "00 00", TEXT_MOST, 4);
+    refuses_term(e, 2, "00", TEXT_MOST - 1, 81);
+    refuses_term(e, 2, "00", TEXT_MOST + 1, 81);
+    refuses_term(e, 2, "FF", TEXT_MOST - 1, 81);
+    refuses_term(e, 0, "00", TEXT_MOST - 1, 7);
+    refuses_term(e, 13, "00", TEXT_MOST, 7);
 }
 
 static void all_cases(const struct engine *e)
@@ -250,6 +363,10 @@ static void all_cases(const struct engine *e)
     case_of_refusals(e);
     case_of_buffer(e);
     case_of_many_coalitions(e);
+    cases_of_reading(e);
+    cases_of_lengths_read(e);
+    case_of_brackets(e);
+    cases_of_writing(e);
 }
 
 int main(void)
@@ -258,6 +375,6 @@ int main(void)
     all_cases(&library_engine);
     if (failures)
         return 1;
-    puts("worked cases A to L and K12: same, by the reference and by the library");
+    puts("worked cases A to L, K12 and K1: same, by the reference and by the library");
     return 0;
 }

@@ -20,7 +20,7 @@ use Rattle.model.proofs.Texts.{flat-some, whole-text, text-whole}
 use Rattle.model.proofs.Bracketed.{fewest-term, fewest-grammar}
 use Rattle.model.proofs.Notation.{term-written, accepted-long}
 use Rattle.demands.specs.Notation.{Says, Asked, AcceptsTheLanguage, OneTree, NoJob, SaysTooMuch, ReaderRefuses, WriterRefuses, EveryTermIsWritten, WrittenFor, ReadsBack, bracketsIn, FewestBrackets, AtMost192}
-use Rattle.demands.proofs.Brackets.{fewest-least, tree-names}
+use Rattle.demands.proofs.Fewest.{fewest-least, tree-names}
 
 pub one-tree : OneTree
 one-tree n w v g h e =

@@ -13,6 +13,6 @@ pub mod SevenRules
 pub mod Codes
 pub mod Comparing
 pub mod Deriving
-pub mod Brackets
+pub mod Fewest
 pub mod Language
 pub mod Tried

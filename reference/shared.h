@@ -1,0 +1,22 @@
+/*
+ * What the files of the reference share: a term and its reader, and the numbers of answers.
+ */
+#ifndef SHARED_H
+#define SHARED_H
+
+#include <stddef.h>
+#include <stdint.h>
+
+struct term {
+    const uint8_t *codes;
+    size_t length;
+};
+
+/* Why codes are no term of a job of n names: 1 to 4; 0 if they are one. */
+unsigned read_term(unsigned n, struct term term);
+
+/* The numbers of two answers. */
+uint32_t written(size_t length);
+uint32_t refused(unsigned refusal);
+
+#endif

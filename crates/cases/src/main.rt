@@ -318,7 +318,7 @@ fn unpack(packed: &[u8], to: &mut [u8]) -> usize
 
 // Case R: the parts of a record, and the call.
 
-// The length of input k: 0 the ledger, 1 p (of a short form, the term), 2 q, 3 the label, 4 the derivation.
+// The length of input k: 0 the ledger, 1 p (of a short form and of writing, the term; of reading, the text), 2 q, 3 the label, 4 the derivation.
 fn input_length(unpacked: &[u8], k: usize) -> u32
     requires { ⌜ (48 ≤ length (now unpacked)) × (k < 5) ⌝ }
     ensures { λ r. ⌜ r ≡ inputLength k (now (unpacked .entry)) ⌝ }
@@ -364,6 +364,8 @@ fn call(unpacked: &[u8], buffer: &mut [u8]) -> u32
         1 => rights::rights_flows_to(ledger, p, q, label),
         2 => rights::rights_extract(ledger, label, buffer),
         3 => rights::rights_short_form(eight_bytes(unpacked, 4), p, buffer),
+        6 => trials::trials_read_text(eight_bytes(unpacked, 4), p, buffer),
+        7 => trials::trials_write_term(eight_bytes(unpacked, 4), p, buffer),
         _ => rights::rights_check_derivation(derivation, ledger, label),
     }
 }
@@ -417,7 +419,7 @@ fn agrees(unpacked: &[u8], space: &mut [u8]) -> bool {
         }
         return quote_agrees(unpacked);
     }
-    if 5 < operation {
+    if 7 < operation {
         return false;
     }
     if expected.len() != four_bytes(unpacked, 44) as usize {

@@ -298,8 +298,17 @@ last-letter : (n i : ℕ) → i < 12 → i < n → lastOf n (0x61 + i) ≡ sole 
 unfolding lastOf
 last-letter n i h k =
     let e : 0x61 + i - 0x61 ≡ i = omega arith in
-    rw (ne-eqb (0x61 + i) 0x2A (λ z. omega arith), ne-eqb (0x61 + i) 0x5F (λ z. omega arith), ne-eqb (0x61 + i) 0x3E (λ z. omega arith), ne-eqb (0x61 + i) 0x3C (λ z. omega arith),
-    ne-eqb (0x61 + i) 0x29 (λ z. omega arith), le-leb 0x61 (0x61 + i) (omega arith), e, lt-ltb i 12 h, lt-ltb i n k)
+    rw (
+      ne-eqb (0x61 + i) 0x2A (λ z. omega arith),
+      ne-eqb (0x61 + i) 0x5F (λ z. omega arith),
+      ne-eqb (0x61 + i) 0x3E (λ z. omega arith),
+      ne-eqb (0x61 + i) 0x3C (λ z. omega arith),
+      ne-eqb (0x61 + i) 0x29 (λ z. omega arith),
+      le-leb 0x61 (0x61 + i) (omega arith),
+      e,
+      lt-ltb i 12 h,
+      lt-ltb i n k,
+    )
 
 last-sign : (n : ℕ) (s : Side) → lastOf n (sign s) ≡ side s
 unfolding lastOf

@@ -5,6 +5,18 @@ ghost use mathlib.Core.Path.{_≡_};
 ghost use Rattle.model.specs.Answers.{number};
 ghost use Rattle.model.specs.Notation.{readText, writeTerm};
 ghost use Rattle.notation.specs.Reading.{notedOf};
+ghost use Rattle.trials.specs.Figures.{Fits};
+
+// The one number that the answer is.
+fn noted_number(noted: Noted) -> u32
+    requires { ⌜ Fits noted ⌝ }
+    ensures { λ r. ⌜ r ≡ number (notedOf noted) ⌝ }
+{
+    match noted {
+        Noted::Written(length) => length as u32,
+        Noted::Refused(refusal) => 131072 + refusal as u32,
+    }
+}
 
 // Reads a text to codes in a job of n names.
 #[no_mangle]
@@ -12,11 +24,7 @@ pub extern "C" fn trials_read_text(n: u64, text: &[u8], codes: &mut [u8]) -> u32
     ensures answered { λ r. ⌜ r ≡ number (readText n (now (text .entry)) (now (codes .entry)) .answer) ⌝ }
     ensures written { λ _. ⌜ now (codes .exit) ≡ readText n (now (text .entry)) (now (codes .entry)) .buffer ⌝ }
 {
-    let noted = notation::read_text(n, text, codes);
-    match noted {
-        Noted::Written(length) => length as u32,
-        Noted::Refused(refusal) => 131072 + refusal as u32,
-    }
+    noted_number(notation::read_text(n, text, codes))
 }
 
 // Writes a term of a job of n names as a text.
@@ -25,9 +33,5 @@ pub extern "C" fn trials_write_term(n: u64, term: &[u8], text: &mut [u8]) -> u32
     ensures answered { λ r. ⌜ r ≡ number (writeTerm n (now (term .entry)) (now (text .entry)) .answer) ⌝ }
     ensures written { λ _. ⌜ now (text .exit) ≡ writeTerm n (now (term .entry)) (now (text .entry)) .buffer ⌝ }
 {
-    let noted = notation::write_term(n, term, text);
-    match noted {
-        Noted::Written(length) => length as u32,
-        Noted::Refused(refusal) => 131072 + refusal as u32,
-    }
+    noted_number(notation::write_term(n, term, text))
 }

@@ -1,0 +1,2 @@
+-- What the promises of the exports cite.
+pub mod Figures

@@ -6,8 +6,8 @@ use mathlib.Core.List.{List, [], _∷_, _++_}
 use lib.Dec.{leb}
 use borrow.Author.Tests.{ne-eqb}
 use Rattle.model.specs.Sides.{Side, confidentiality, integrity}
-use Rattle.model.specs.Terms.{Term, NamesBelow}
-use Rattle.model.specs.Texts.{Joiner, both, either, Tree, letter, star, low, bracket, signed, join, sign, joiner, flat, joinTerms, term, joinRank, rank, Grammar, atMost, fewest}
+use Rattle.model.specs.Terms.{NamesBelow}
+use Rattle.model.specs.Texts.{Joiner, both, either, Tree, letter, star, low, bracket, signed, join, sign, joiner, flat, term, joinRank, rank, Grammar, atMost, fewest}
 use Rattle.model.proofs.Truth.{cond-case}
 use Rattle.model.proofs.Texts.{partRank, part-rank, rank-most}
 use Rattle.model.proofs.Bracketed.{atMost-low, fewest-join}

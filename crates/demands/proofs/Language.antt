@@ -1,18 +1,18 @@
 -- Which texts are read and which terms are written, and with which refusals (document 02, K1). Assumes nothing.
 use Prim.Native.Nat.{ℕ, _≤_, _<_}
 use native.Mathlib.Omega.{arith}
-use mathlib.Core.Logic.{_↔_, _⊎_, inl, inr}
+use mathlib.Core.Logic.{_⊎_, inl, inr}
 use mathlib.Core.Path.{_≡_, refl, sym, ap, _∙_}
 use mathlib.Core.Bool.{Bool, true, false, _&&_}
 use mathlib.Core.List.{List, [], _∷_, _++_, reverse}
 use lib.Dec.{eqb, leb}
 use lib.ListN.{length}
-use borrow.Author.Tests.{leb-true, leb-false, eqb-true, le-leb, eq-eqb}
+use borrow.Author.Tests.{leb-true, leb-false, eqb-true, eq-eqb}
 use Rattle.model.specs.Readings.{Reading, accepted, refused, require, andThen}
 use Rattle.model.specs.Terms.{Term, codes, jobSize, readTerm}
-use Rattle.model.specs.Texts.{Tree, flat, term, Grammar, fewest}
+use Rattle.model.specs.Texts.{Tree, flat, term, fewest}
 use Rattle.model.specs.Notation.{Back, ended, noText, readBack, wholeText, textLength, textCodes, termText}
-use Rattle.model.proofs.Truth.{clash, and-left, and-right, and-intro}
+use Rattle.model.proofs.Truth.{clash, and-left, and-right}
 use Rattle.model.proofs.Accepted.{job-true, job-false, job-size}
 use Rattle.model.proofs.Reading.{accepted-codes, codes-unique}
 use Rattle.model.proofs.Refusals.{refused-number}

@@ -1,12 +1,11 @@
 -- Laws of the text with the fewest brackets (document 02, K1). Assumes nothing.
 use Prim.Native.Nat.{ℕ, _+_, _*_, _<_, _≤_}
 use native.Mathlib.Omega.{arith}
-use mathlib.Core.Path.{_≡_, refl, ap, _∙_}
-use mathlib.Core.List.{List, [], _∷_, _++_}
+use mathlib.Core.Path.{_≡_, refl, ap}
+use mathlib.Core.List.{[], _∷_}
 use lib.Dec.{leb}
 use lib.ListN.{length, length-append}
 use borrow.Author.Tests.{leb-true, le-leb, lt-leb}
-use Rattle.model.specs.Sides.{Side}
 use Rattle.model.specs.Terms.{Term, name, top, bottom, conj, disj, project, codes, NamesBelow}
 use Rattle.model.specs.Texts.{Joiner, both, either, Tree, letter, star, low, bracket, signed, join, sign, joiner, flat, joinTerms, term, joinRank, rank, Grammar, atMost, fewest}
 use Rattle.model.proofs.Truth.{cond-case}

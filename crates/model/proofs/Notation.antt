@@ -1,5 +1,5 @@
 -- What it says that a text was read, or a term written (document 02, K1). Assumes nothing.
-use mathlib.Core.Path.{_≡_, refl, sym, ap, _∙_}
+use mathlib.Core.Path.{_≡_, refl, ap, _∙_}
 use Prim.Native.Nat.{ℕ, _≤_}
 use native.Mathlib.Omega.{arith}
 use mathlib.Core.Bool.{true, _&&_}
@@ -7,7 +7,7 @@ use mathlib.Core.List.{List, [], _∷_, reverse}
 use lib.Dec.{eqb, leb}
 use lib.ListN.{length}
 use borrow.Author.Tests.{leb-true}
-use Rattle.model.specs.Readings.{accepted, refused, require}
+use Rattle.model.specs.Readings.{accepted, require}
 use Rattle.model.specs.Terms.{Term, codes, jobSize, readTerm}
 use Rattle.model.specs.Answers.{Written}
 use Rattle.model.specs.Texts.{Tree, flat, term, fewest}

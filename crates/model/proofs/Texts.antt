@@ -3,7 +3,7 @@
 use Prim.Native.Nat.{ℕ, zero, suc, _+_, _-_, _<_, _≤_}
 use native.Mathlib.Omega.{arith}
 use mathlib.Core.Path.{_≡_, refl, sym, ap, _∙_}
-use mathlib.Core.Bool.{Bool, true, false, cond, _&&_, false≢true}
+use mathlib.Core.Bool.{true, false, _&&_, false≢true}
 use mathlib.Core.List.{List, [], _∷_, _++_, reverse, reverseAux, reverseAux-append, reverse-reverse}
 use lib.Dec.{eqb, ltb, leb}
 use lib.ListN.{length, drop, length-append, length-reverse}

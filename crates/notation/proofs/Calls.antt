@@ -8,7 +8,7 @@ use lib.Dec.{leb}
 use lib.ListN.{length, drop, take, getD, drop-of-length-le}
 use lib.Seq.{take-suc, take-length}
 use borrow.Author.Tests.{le-leb, lt-leb, eq-eqb, ne-eqb}
-use Rattle.model.specs.Readings.{accepted, refused, require, andThen}
+use Rattle.model.specs.Readings.{accepted, require, andThen}
 use Rattle.model.specs.Terms.{Term, codes, readTerm}
 use Rattle.model.specs.Texts.{flat, term, fewest}
 use Rattle.model.specs.Notation.{noText, readBack, wholeText, textCodes, termText, readText, writeTerm}

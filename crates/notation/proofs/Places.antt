@@ -11,7 +11,7 @@ use lib.Seq.{drop-cons, drop-set-lt, getD-set-same}
 use borrow.Author.Tests.{ne-eqb}
 use Rattle.model.specs.Sides.{Side}
 use Rattle.model.specs.Terms.{projectCode, codes}
-use Rattle.model.specs.Texts.{Joiner, both, either, Tree, letter, bracket, signed, join, joiner, flat, term, joinRank}
+use Rattle.model.specs.Texts.{Joiner, Tree, letter, bracket, signed, join, joiner, flat, term, joinRank}
 use Rattle.model.specs.Notation.{Back, ended, noText, leftward, Last, sole, side, closing, other, lastOf, endsIn, opened, joinedTo, readLast, readBack}
 use Rattle.model.proofs.Texts.{joinCode, partRank, join-codes, onto, onto-flat, onto-long, Right, last-right, back-sound, atom-none, atom-step, list-step}
 use Rattle.notation.specs.Reading.{endingOf, backward, Read}

@@ -6,7 +6,7 @@ use lib.ListN.{length, drop, getD}
 use Rattle.model.specs.Terms.{projectCode, codes}
 use Rattle.model.specs.Answers.{Answer, Outcome}
 use Rattle.model.specs.Answers as answers
-use Rattle.model.specs.Texts.{Tree, term}
+use Rattle.model.specs.Texts.{term}
 use Rattle.model.specs.Notation.{Back, ended, noText, Last, sole, side, closing, other}
 use Rattle.notation.specs.declared.Noted.{Noted}
 use Rattle.notation.specs.declared.Noted.the-variants.{Written, Refused}

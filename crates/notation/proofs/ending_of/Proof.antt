@@ -1,15 +1,14 @@
 -- `notation::ending_of` meets its contract: in each arm the character is a number, at which `lastOf` computes; in the last it is a letter or none. Assumes
 -- nothing.
-use mathlib.Core.Path.{_≡_, sym, ap, _∙_}
+use mathlib.Core.Path.{_≡_}
 use mathlib.Core.Bool.{cond, _&&_}
-use Prim.Native.Nat.{ℕ, _-_}
+use Prim.Native.Nat.{_-_}
 use lib.Dec.{leb, ltb}
 use borrow.Author.Needs.{needs}
 use borrow.Author.Tests.{lt-leb, le-leb, lt-ltb, le-ltb}
 use Rattle.model.specs.Terms.{codes}
 use Rattle.model.specs.Texts.{letter, term}
-use Rattle.model.specs.Notation.{Last, sole, other, lastOf}
-use Rattle.notation.specs.Reading.{endingOf}
+use Rattle.model.specs.Notation.{sole, other, lastOf}
 use Rattle.notation.proofs.Places.{last-plain}
 use Rattle.notation.proofs.ending_of.Statement.{statement}
 use Rattle.notation.proofs.ending_of.Tie as tie

@@ -1,7 +1,7 @@
 -- `notation::write_term` meets its contract: each return is a law of `proofs/Calls.antt`. Assumes nothing.
 use native.Mathlib.Omega.{arith}
 use mathlib.Core.Logic.{inl, inr, ⊎-elim}
-use mathlib.Core.Path.{_≡_, sym, ap, _∙_}
+use mathlib.Core.Path.{sym, ap, _∙_}
 use borrow.Author.Needs.{needs}
 use borrow.Author.Tests.{ltb-true}
 use Rattle.terms.specs.Readings.{termRefusal}

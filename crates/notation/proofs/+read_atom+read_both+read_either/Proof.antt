@@ -58,25 +58,16 @@ module _ (t : ℕ) where
   signed-part : (c : read-atom-lts.After-known-told3 read-atom-claims (read-atom-at t) read-atom.Post) →
       let a = c .before .before .before .before .before .before .before .before .before .before .before .before .args in
       Got (a .n) 0 (a .text .now) (a .end - 1) (a .to) (a .scratch .now) (c .before .before .before .read-atom .last .1 .1 .1 .0) (c .before .part .given .0 .0) (c .before .part .given .0 .1 .0)
-  signed-part c =
-      let a = c .before .before .before .before .before .before .before .before .before .before .before .before .args in
-      let k = c .before .before .before .read-atom in
-      got (a .n) 0 (a .text .now) (a .end - 1) (a .to) (a .scratch .now) (k .last .1 .1 .1 .0) _ _ (k .result) (k .ensures) (c .before .part .given .1)
+  signed-part c = let k = c .before .before .before .read-atom in got _ _ _ _ _ _ _ _ _ (k .result) (k .ensures) (c .before .part .given .1)
 
   -- the either-list before a closing bracket
   closed-part : (c : read-atom-lts.After-known-told4 read-atom-claims (read-atom-at t) read-atom.Post) →
       let a = c .before .before .before .before .before .before .before .before .before .before .before .args in
       Got (a .n) 2 (a .text .now) (a .end - 1) (a .to) (a .scratch .now) (c .before .before .before .read-either .last .1 .1 .1 .0) (c .before .part2 .given .0 .0) (c .before .part2 .given .0 .1 .0)
-  closed-part c =
-      let a = c .before .before .before .before .before .before .before .before .before .before .before .args in
-      let k = c .before .before .before .read-either in
-      got (a .n) 2 (a .text .now) (a .end - 1) (a .to) (a .scratch .now) (k .last .1 .1 .1 .0) _ _ (k .result) (k .ensures) (c .before .part2 .given .1)
+  closed-part c = let k = c .before .before .before .read-either in got _ _ _ _ _ _ _ _ _ (k .result) (k .ensures) (c .before .part2 .given .1)
 
   read-atom-returns : read-atom-lts.Need-returns read-atom-claims (read-atom-at t) read-atom.Post
-  read-atom-returns c =
-      let s = c .before .before in
-      let a = s .args in
-      atom-end (a .n) (a .text .now) (a .end) (a .to) (a .scratch .now) (c .if1 .taken)
+  read-atom-returns c = atom-end _ _ _ _ _ (c .if1 .taken)
 
   read-atom-sub-last : read-atom-lts.Need-sub-last read-atom-claims (read-atom-at t) read-atom.Post
   read-atom-sub-last c = search needs
@@ -91,22 +82,13 @@ module _ (t : ℕ) where
   read-atom-enum-known-ending c = search needs
 
   read-atom-sub-scratch : read-atom-lts.Need-sub-scratch read-atom-claims (read-atom-at t) read-atom.Post
-  read-atom-sub-scratch c =
-      let s = c .before .before .before .before .before .before .before in
-      let a = s .args in
-      omega (arith, s .pre .1 .enough, c .before .before .before .before .before .if1 .left)
+  read-atom-sub-scratch c = omega arith
 
   read-atom-element-write-scratch : read-atom-lts.Need-element-write-scratch read-atom-claims (read-atom-at t) read-atom.Post
-  read-atom-element-write-scratch c =
-      let s = c .before .before .before .before .before .before .before in
-      let a = s .args in
-      omega (arith, s .pre .1 .enough, s .pre .1 .inside, c .before .before .before .before .before .if1 .left)
+  read-atom-element-write-scratch c = omega arith
 
   read-atom-sub-t21 : read-atom-lts.Need-sub-t21 read-atom-claims (read-atom-at t) read-atom.Post
-  read-atom-sub-t21 c =
-      let s = c .before .before .before .before .before .before .before in
-      let a = s .args in
-      omega (arith, s .pre .1 .enough, c .before .before .before .before .before .if1 .left)
+  read-atom-sub-t21 c = omega arith
 
   read-atom-enum-known-ending-2 : read-atom-lts.Need-enum-known-ending-2 read-atom-claims (read-atom-at t) read-atom.Post
   read-atom-enum-known-ending-2 c = search needs
@@ -122,32 +104,17 @@ module _ (t : ℕ) where
 
   read-atom-returns-2 : read-atom-lts.Need-returns-2 read-atom-claims (read-atom-at t) read-atom.Post
   read-atom-returns-2 c =
-      let s = c .before .before .before .before .before .before .before .before .before .before .before in
-      let a = s .args in
       let k = c .before .before .read-atom in
-      sign-none (a .n) (a .text .now) (a .end) (a .to) (a .scratch .now) (omega (arith, c .before .before .before .before .before .before .before .before .before .if1 .left)) _ (sym (c .before .before .before .before .before .before .before .ending-of .ensures) ∙ c .before .before .before .before .before .ending2 .given .1) (k .last .1 .1 .1 .0) (k .ensures .size)
-      (got-none (a .n) 0 (a .text .now) (a .end - 1) (a .to) (a .scratch .now) (k .last .1 .1 .1 .0) (k .result) (k .ensures) (c .enum-told .given .1))
+      sign-none _ _ _ _ _ (omega arith) _ (sym (c .before .before .before .before .before .before .before .ending-of .ensures) ∙ c .before .before .before .before .before .ending2 .given .1) _ (k .ensures .size) (got-none _ _ _ _ _ _ _ _ (k .ensures) (c .enum-told .given .1))
 
   read-atom-sub-scratch-2 : read-atom-lts.Need-sub-scratch-2 read-atom-claims (read-atom-at t) read-atom.Post
-  read-atom-sub-scratch-2 c =
-      let s = c .before .before .before .before .before .before .before .before .before .before .before .before in
-      let a = s .args in
-      let g = signed-part c in
-      omega (arith, g .begins, g .paid, s .pre .1 .enough)
+  read-atom-sub-scratch-2 c = let g = signed-part c in omega arith
 
   read-atom-element-write-scratch-2 : read-atom-lts.Need-element-write-scratch-2 read-atom-claims (read-atom-at t) read-atom.Post
-  read-atom-element-write-scratch-2 c =
-      let s = c .before .before .before .before .before .before .before .before .before .before .before .before in
-      let a = s .args in
-      let g = signed-part c in
-      omega (arith, g .begins, s .pre .1 .inside)
+  read-atom-element-write-scratch-2 c = let g = signed-part c in omega arith
 
   read-atom-sub-t25 : read-atom-lts.Need-sub-t25 read-atom-claims (read-atom-at t) read-atom.Post
-  read-atom-sub-t25 c =
-      let s = c .before .before .before .before .before .before .before .before .before .before .before .before in
-      let a = s .args in
-      let g = signed-part c in
-      omega (arith, g .begins, g .paid, s .pre .1 .enough)
+  read-atom-sub-t25 c = let g = signed-part c in omega arith
 
   read-atom-enum-told-2 : read-atom-lts.Need-enum-told-2 read-atom-claims (read-atom-at t) read-atom.Post
   read-atom-enum-told-2 c = search needs
@@ -163,55 +130,32 @@ module _ (t : ℕ) where
 
   read-atom-returns-3 : read-atom-lts.Need-returns-3 read-atom-claims (read-atom-at t) read-atom.Post
   read-atom-returns-3 c =
-      let s = c .before .before .before .before .before .before .before .before .before .before in
-      let a = s .args in
       let k = c .before .before .read-either in
-      closing-none (a .n) (a .text .now) (a .end) (a .to) (a .scratch .now) (omega (arith, c .before .before .before .before .before .before .before .before .if1 .left)) (sym (c .before .before .before .before .before .before .ending-of .ensures) ∙ c .before .before .before .before .enum-told2 .given .1) (k .last .1 .1 .1 .0) (k .ensures .size)
-      (got-none (a .n) 2 (a .text .now) (a .end - 1) (a .to) (a .scratch .now) (k .last .1 .1 .1 .0) (k .result) (k .ensures) (c .enum-told3 .given .1))
+      closing-none _ _ _ _ _ (omega arith) (sym (c .before .before .before .before .before .before .ending-of .ensures) ∙ c .before .before .before .before .enum-told2 .given .1) _ (k .ensures .size) (got-none _ _ _ _ _ _ _ _ (k .ensures) (c .enum-told3 .given .1))
 
   read-atom-ends-in-requires : read-atom-lts.Need-ends-in-requires read-atom-claims (read-atom-at t) read-atom.Post
-  read-atom-ends-in-requires c κs =
-      let s = c .before .before .before .before .before .before .before .before .before .before .before in
-      let a = s .args in
-      omega (arith, closed-part c .paid, s .pre .1 .within)
+  read-atom-ends-in-requires c κs = let g = closed-part c in omega arith
 
   read-atom-returns-4 : read-atom-lts.Need-returns-4 read-atom-claims (read-atom-at t) read-atom.Post
-  read-atom-returns-4 c =
-      let s = c .before .before .before .before .before .before .before .before .before .before .before .before .before in
-      let a = s .args in
-      closing-other (a .n) (a .text .now) (a .end) (a .to) (a .scratch .now) (omega (arith, c .before .before .before .before .before .before .before .before .before .before .before .if1 .left)) (sym (c .before .before .before .before .before .before .before .before .before .ending-of .ensures) ∙ c .before .before .before .before .before .before .before .enum-told2 .given .1) (c .before .before .before .before .before .read-either .last .1 .1 .1 .0) _ _ (closed-part (c .before .before)) (sym (c .before .ends-in .ensures) ∙ not-true _ (c .if2 .taken))
+  read-atom-returns-4 c = closing-other _ _ _ _ _ (omega arith) (sym (c .before .before .before .before .before .before .before .before .before .ending-of .ensures) ∙ c .before .before .before .before .before .before .before .enum-told2 .given .1) _ _ _ (closed-part (c .before .before)) (sym (c .before .ends-in .ensures) ∙ not-true _ (c .if2 .taken))
 
   read-atom-sub-t30 : read-atom-lts.Need-sub-t30 read-atom-claims (read-atom-at t) read-atom.Post
-  read-atom-sub-t30 c =
-      let a = c .before .before .before .before .before .before .before .before .before .before .before .before .before .args in
-      ends-some (a .text .now) _ 0x28 (sym (c .before .ends-in .ensures) ∙ not-false _ (c .if2 .left))
+  read-atom-sub-t30 c = ends-some _ _ _ (sym (c .before .ends-in .ensures) ∙ not-false _ (c .if2 .left))
 
   read-atom-enum-told-4 : read-atom-lts.Need-enum-told-4 read-atom-claims (read-atom-at t) read-atom.Post
   read-atom-enum-told-4 c = search needs
 
   read-atom-returns-5 : read-atom-lts.Need-returns-5 read-atom-claims (read-atom-at t) read-atom.Post
-  read-atom-returns-5 c =
-      let s = c .before .before .before .before .before .before .before in
-      let a = s .args in
-      atom-sole (a .n) (a .text .now) (a .end) (a .to) (a .scratch .now) (omega (arith, c .before .before .before .before .before .if1 .left)) _ (sym (c .before .before .before .ending-of .ensures) ∙ c .before .ending .given .1) (s .pre .1 .enough) (omega (arith, s .pre .1 .inside, s .pre .1 .size))
+  read-atom-returns-5 c = atom-sole _ _ _ _ _ (omega arith) _ (sym (c .before .before .before .ending-of .ensures) ∙ c .before .ending .given .1) (search needs) (omega arith)
 
   read-atom-returns-6 : read-atom-lts.Need-returns-6 read-atom-claims (read-atom-at t) read-atom.Post
-  read-atom-returns-6 c =
-      let s = c .before .before .before .before .before .before .before .before .before .before .before .before in
-      let a = s .args in
-      sign-ended (a .n) (a .text .now) (a .end) (a .to) (a .scratch .now) (omega (arith, c .before .before .before .before .before .before .before .before .before .before .if1 .left)) _ (sym (c .before .before .before .before .before .before .before .before .ending-of .ensures) ∙ c .before .before .before .before .before .before .ending2 .given .1) (c .before .before .before .read-atom .last .1 .1 .1 .0) _ _ (signed-part c) (s .pre .1 .enough) (omega (arith, s .pre .1 .inside, s .pre .1 .size))
+  read-atom-returns-6 c = sign-ended _ _ _ _ _ (omega arith) _ (sym (c .before .before .before .before .before .before .before .before .ending-of .ensures) ∙ c .before .before .before .before .before .before .ending2 .given .1) _ _ _ (signed-part c) (search needs) (omega arith)
 
   read-atom-returns-7 : read-atom-lts.Need-returns-7 read-atom-claims (read-atom-at t) read-atom.Post
-  read-atom-returns-7 c =
-      let s = c .before .before .before .before .before .before .before .before .before .before .before .before .before in
-      let a = s .args in
-      closing-ended (a .n) (a .text .now) (a .end) (a .to) (a .scratch .now) (omega (arith, c .before .before .before .before .before .before .before .before .before .before .before .if1 .left)) (sym (c .before .before .before .before .before .before .before .before .before .ending-of .ensures) ∙ c .before .before .before .before .before .before .before .enum-told2 .given .1) (c .before .before .before .before .before .read-either .last .1 .1 .1 .0) _ _ (closed-part (c .before .before)) (sym (c .before .ends-in .ensures) ∙ not-false _ (c .if2 .left))
+  read-atom-returns-7 c = closing-ended _ _ _ _ _ (omega arith) (sym (c .before .before .before .before .before .before .before .before .before .ending-of .ensures) ∙ c .before .before .before .before .before .before .before .enum-told2 .given .1) _ _ _ (closed-part (c .before .before)) (sym (c .before .ends-in .ensures) ∙ not-false _ (c .if2 .left))
 
   read-atom-returns-8 : read-atom-lts.Need-returns-8 read-atom-claims (read-atom-at t) read-atom.Post
-  read-atom-returns-8 c =
-      let s = c .before .before .before .before .before .before in
-      let a = s .args in
-      atom-other (a .n) (a .text .now) (a .end) (a .to) (a .scratch .now) (omega (arith, c .before .before .before .before .if1 .left)) (sym (c .before .before .ending-of .ensures) ∙ c .enum-told4 .given .1)
+  read-atom-returns-8 c = atom-other _ _ _ _ _ (omega arith) (sym (c .before .before .ending-of .ensures) ∙ c .enum-told4 .given .1)
 
 module _ (t : ℕ) where
   abbrev read-both-claims : read-both-lts.Claims
@@ -230,61 +174,31 @@ module _ (t : ℕ) where
   both-last : (c : read-both-lts.After-known-told read-both-claims (read-both-at t) read-both.Post) →
       let a = c .before .before .before .before .before .before .args in
       Got (a .n) 0 (a .text .now) (a .end) (a .to) (a .scratch .now) (c .before .before .before .read-atom .last .1 .1 .1 .0) (c .before .part .given .0 .0) (c .before .part .given .0 .1 .0)
-  both-last c =
-      let a = c .before .before .before .before .before .before .args in
-      let k = c .before .before .before .read-atom in
-      got (a .n) 0 (a .text .now) (a .end) (a .to) (a .scratch .now) (k .last .1 .1 .1 .0) _ _ (k .result) (k .ensures) (c .before .part .given .1)
+  both-last c = let k = c .before .before .before .read-atom in got _ _ _ _ _ _ _ _ _ (k .result) (k .ensures) (c .before .part .given .1)
 
   both-more : (c : read-both-lts.After-known-told2 read-both-claims (read-both-at t) read-both.Post) →
       let a = c .before .before .before .before .before .before .before .before .before .before .before .before .before .args in
-      let p = c .before .before .before .before .before .before .before .before .part .given in
-      Got (a .n) 1 (a .text .now) (p .0 .0 - 1) (p .0 .1 .0) (c .before .before .before .before .before .before .before .before .before .before .read-atom .last .1 .1 .1 .0) (c .before .before .before .read-both .last .1 .1 .1 .0) (c .before .list .given .0 .0) (c .before .list .given .0 .1 .0)
-  both-more c =
-      let a = c .before .before .before .before .before .before .before .before .before .before .before .before .before .args in
-      let p = c .before .before .before .before .before .before .before .before .part .given in
-      let k = c .before .before .before .read-both in
-      got (a .n) 1 (a .text .now) (p .0 .0 - 1) (p .0 .1 .0) (c .before .before .before .before .before .before .before .before .before .before .read-atom .last .1 .1 .1 .0) (k .last .1 .1 .1 .0) _ _ (k .result) (k .ensures) (c .before .list .given .1)
+      Got (a .n) 1 (a .text .now) (c .before .before .before .before .before .before .before .before .part .given .0 .0 - 1) (c .before .before .before .before .before .before .before .before .part .given .0 .1 .0) (c .before .before .before .before .before .before .before .before .before .before .read-atom .last .1 .1 .1 .0) (c .before .before .before .read-both .last .1 .1 .1 .0) (c .before .list .given .0 .0) (c .before .list .given .0 .1 .0)
+  both-more c = let k = c .before .before .before .read-both in got _ _ _ _ _ _ _ _ _ (k .result) (k .ensures) (c .before .list .given .1)
 
   read-both-returns : read-both-lts.Need-returns read-both-claims (read-both-at t) read-both.Post
-  read-both-returns c =
-      let s = c .before .before .before .before .before in
-      let a = s .args in
-      let k = c .before .before .read-atom in
-      list-none (a .n) both (a .text .now) (a .end) (a .to) (a .scratch .now) (k .last .1 .1 .1 .0) (k .ensures .size)
-      (got-none (a .n) 0 (a .text .now) (a .end) (a .to) (a .scratch .now) (k .last .1 .1 .1 .0) (k .result) (k .ensures) (c .enum-told .given .1))
+  read-both-returns c = let k = c .before .before .read-atom in list-none _ both _ _ _ _ _ (k .ensures .size) (got-none _ _ _ _ _ _ _ _ (k .ensures) (c .enum-told .given .1))
 
   read-both-ends-in-requires : read-both-lts.Need-ends-in-requires read-both-claims (read-both-at t) read-both.Post
-  read-both-ends-in-requires c κs =
-      let s = c .before .before .before .before .before .before in
-      let a = s .args in
-      omega (arith, both-last c .paid, s .pre .1 .within)
+  read-both-ends-in-requires c κs = let g = both-last c in omega arith
 
   read-both-returns-2 : read-both-lts.Need-returns-2 read-both-claims (read-both-at t) read-both.Post
-  read-both-returns-2 c =
-      let s = c .before .before .before .before .before .before .before .before in
-      let a = s .args in
-      list-alone (a .n) both (a .text .now) (a .end) (a .to) (a .scratch .now) (c .before .before .before .before .before .read-atom .last .1 .1 .1 .0) _ _ (both-last (c .before .before)) (sym (c .before .ends-in .ensures) ∙ not-true _ (c .if1 .taken))
+  read-both-returns-2 c = list-alone _ both _ _ _ _ _ _ _ (both-last (c .before .before)) (sym (c .before .ends-in .ensures) ∙ not-true _ (c .if1 .taken))
 
   read-both-sub-read-both : read-both-lts.Need-sub-read-both read-both-claims (read-both-at t) read-both.Post
-  read-both-sub-read-both c =
-      let a = c .before .before .before .before .before .before .before .before .args in
-      ends-some (a .text .now) _ 0x26 (sym (c .before .ends-in .ensures) ∙ not-false _ (c .if1 .left))
+  read-both-sub-read-both c = ends-some _ _ _ (sym (c .before .ends-in .ensures) ∙ not-false _ (c .if1 .left))
 
   read-both-read-both-requires : read-both-lts.Need-read-both-requires read-both-claims (read-both-at t) read-both.Post
   read-both-read-both-requires c κs =
-      let s = c .before .before .before .before .before .before .before .before .before in
-      let a = s .args in
-      let r = s .pre .1 in
       let g = both-last (c .before .before .before) in
-      let e = ends-some (a .text .now) _ 0x26 (sym (c .before .before .ends-in .ensures) ∙ not-false _ (c .before .if1 .left)) in (
-        omega (arith, g .paid, s .pre .0),
-        record {
-          within = omega (arith, g .paid, r .within);
-          enough = omega (arith, g .paid, g .begins, r .enough);
-          inside = omega (arith, g .begins, r .inside);
-          size = g .size ∙ r .size;
-        },
-      )
+      let e = ends-some _ _ _ (sym (c .before .before .ends-in .ensures) ∙ not-false _ (c .before .if1 .left)) in
+      let r = c .before .before .before .before .before .before .before .before .before .pre .1 in
+      (omega arith, record { within = omega arith; enough = omega arith; inside = omega arith; size = g .size ∙ r .size })
 
   read-both-enum-known-list : read-both-lts.Need-enum-known-list read-both-claims (read-both-at t) read-both.Post
   read-both-enum-known-list c = search needs
@@ -294,43 +208,31 @@ module _ (t : ℕ) where
 
   read-both-returns-3 : read-both-lts.Need-returns-3 read-both-claims (read-both-at t) read-both.Post
   read-both-returns-3 c =
-      let s = c .before .before .before .before .before .before .before .before .before .before .before .before in
-      let a = s .args in
       let k = c .before .before .read-both in
-      list-more-none (a .n) both (a .text .now) (a .end) (a .to) (a .scratch .now) (c .before .before .before .before .before .before .before .before .before .read-atom .last .1 .1 .1 .0) _ _ (both-last (c .before .before .before .before .before .before)) (sym (c .before .before .before .before .before .ends-in .ensures) ∙ not-false _ (c .before .before .before .before .if1 .left)) (k .last .1 .1 .1 .0) (k .ensures .size)
-      (got-none (a .n) 1 (a .text .now) (c .before .before .before .before .before .before .before .part .given .0 .0 - 1) (c .before .before .before .before .before .before .before .part .given .0 .1 .0) (c .before .before .before .before .before .before .before .before .before .read-atom .last .1 .1 .1 .0) (k .last .1 .1 .1 .0) (k .result) (k .ensures) (c .enum-told2 .given .1))
+      list-more-none _ both _ _ _ _ _ _ _ (both-last (c .before .before .before .before .before .before)) (sym (c .before .before .before .before .before .ends-in .ensures) ∙ not-false _ (c .before .before .before .before .if1 .left)) _ (k .ensures .size) (got-none _ _ _ _ _ _ _ _ (k .ensures) (c .enum-told2 .given .1))
 
   read-both-sub-scratch : read-both-lts.Need-sub-scratch read-both-claims (read-both-at t) read-both.Post
   read-both-sub-scratch c =
-      let s = c .before .before .before .before .before .before .before .before .before .before .before .before .before in
-      let a = s .args in
       let g = both-last (c .before .before .before .before .before .before .before) in
       let m = both-more c in
-      let e = ends-some (a .text .now) _ 0x26 (sym (c .before .before .before .before .before .before .ends-in .ensures) ∙ not-false _ (c .before .before .before .before .before .if1 .left)) in
-      omega (arith, g .paid, g .begins, m .paid, m .begins, s .pre .1 .enough)
+      let e = ends-some _ _ _ (sym (c .before .before .before .before .before .before .ends-in .ensures) ∙ not-false _ (c .before .before .before .before .before .if1 .left)) in
+      omega arith
 
   read-both-element-write-scratch : read-both-lts.Need-element-write-scratch read-both-claims (read-both-at t) read-both.Post
   read-both-element-write-scratch c =
-      let s = c .before .before .before .before .before .before .before .before .before .before .before .before .before in
-      let a = s .args in
       let g = both-last (c .before .before .before .before .before .before .before) in
       let m = both-more c in
-      omega (arith, g .begins, m .begins, s .pre .1 .inside)
+      omega arith
 
   read-both-sub-t15 : read-both-lts.Need-sub-t15 read-both-claims (read-both-at t) read-both.Post
   read-both-sub-t15 c =
-      let s = c .before .before .before .before .before .before .before .before .before .before .before .before .before in
-      let a = s .args in
       let g = both-last (c .before .before .before .before .before .before .before) in
       let m = both-more c in
-      let e = ends-some (a .text .now) _ 0x26 (sym (c .before .before .before .before .before .before .ends-in .ensures) ∙ not-false _ (c .before .before .before .before .before .if1 .left)) in
-      omega (arith, g .paid, g .begins, m .paid, m .begins, s .pre .1 .enough)
+      let e = ends-some _ _ _ (sym (c .before .before .before .before .before .before .ends-in .ensures) ∙ not-false _ (c .before .before .before .before .before .if1 .left)) in
+      omega arith
 
   read-both-returns-4 : read-both-lts.Need-returns-4 read-both-claims (read-both-at t) read-both.Post
-  read-both-returns-4 c =
-      let s = c .before .before .before .before .before .before .before .before .before .before .before .before .before in
-      let a = s .args in
-      list-more (a .n) both (a .text .now) (a .end) (a .to) (a .scratch .now) (c .before .before .before .before .before .before .before .before .before .before .read-atom .last .1 .1 .1 .0) _ _ (both-last (c .before .before .before .before .before .before .before)) (sym (c .before .before .before .before .before .before .ends-in .ensures) ∙ not-false _ (c .before .before .before .before .before .if1 .left)) (c .before .before .before .read-both .last .1 .1 .1 .0) _ _ (both-more c) (s .pre .1 .enough) (omega (arith, s .pre .1 .inside, s .pre .1 .size))
+  read-both-returns-4 c = list-more _ both _ _ _ _ _ _ _ (both-last (c .before .before .before .before .before .before .before)) (sym (c .before .before .before .before .before .before .ends-in .ensures) ∙ not-false _ (c .before .before .before .before .before .if1 .left)) _ _ _ (both-more c) (search needs) (omega arith)
 
 module _ (t : ℕ) where
   abbrev read-either-claims : read-either-lts.Claims
@@ -349,61 +251,31 @@ module _ (t : ℕ) where
   either-last : (c : read-either-lts.After-known-told read-either-claims (read-either-at t) read-either.Post) →
       let a = c .before .before .before .before .before .before .args in
       Got (a .n) 1 (a .text .now) (a .end) (a .to) (a .scratch .now) (c .before .before .before .read-both .last .1 .1 .1 .0) (c .before .part .given .0 .0) (c .before .part .given .0 .1 .0)
-  either-last c =
-      let a = c .before .before .before .before .before .before .args in
-      let k = c .before .before .before .read-both in
-      got (a .n) 1 (a .text .now) (a .end) (a .to) (a .scratch .now) (k .last .1 .1 .1 .0) _ _ (k .result) (k .ensures) (c .before .part .given .1)
+  either-last c = let k = c .before .before .before .read-both in got _ _ _ _ _ _ _ _ _ (k .result) (k .ensures) (c .before .part .given .1)
 
   either-more : (c : read-either-lts.After-known-told2 read-either-claims (read-either-at t) read-either.Post) →
       let a = c .before .before .before .before .before .before .before .before .before .before .before .before .before .args in
-      let p = c .before .before .before .before .before .before .before .before .part .given in
-      Got (a .n) 2 (a .text .now) (p .0 .0 - 1) (p .0 .1 .0) (c .before .before .before .before .before .before .before .before .before .before .read-both .last .1 .1 .1 .0) (c .before .before .before .read-either .last .1 .1 .1 .0) (c .before .list .given .0 .0) (c .before .list .given .0 .1 .0)
-  either-more c =
-      let a = c .before .before .before .before .before .before .before .before .before .before .before .before .before .args in
-      let p = c .before .before .before .before .before .before .before .before .part .given in
-      let k = c .before .before .before .read-either in
-      got (a .n) 2 (a .text .now) (p .0 .0 - 1) (p .0 .1 .0) (c .before .before .before .before .before .before .before .before .before .before .read-both .last .1 .1 .1 .0) (k .last .1 .1 .1 .0) _ _ (k .result) (k .ensures) (c .before .list .given .1)
+      Got (a .n) 2 (a .text .now) (c .before .before .before .before .before .before .before .before .part .given .0 .0 - 1) (c .before .before .before .before .before .before .before .before .part .given .0 .1 .0) (c .before .before .before .before .before .before .before .before .before .before .read-both .last .1 .1 .1 .0) (c .before .before .before .read-either .last .1 .1 .1 .0) (c .before .list .given .0 .0) (c .before .list .given .0 .1 .0)
+  either-more c = let k = c .before .before .before .read-either in got _ _ _ _ _ _ _ _ _ (k .result) (k .ensures) (c .before .list .given .1)
 
   read-either-returns : read-either-lts.Need-returns read-either-claims (read-either-at t) read-either.Post
-  read-either-returns c =
-      let s = c .before .before .before .before .before in
-      let a = s .args in
-      let k = c .before .before .read-both in
-      list-none (a .n) either (a .text .now) (a .end) (a .to) (a .scratch .now) (k .last .1 .1 .1 .0) (k .ensures .size)
-      (got-none (a .n) 1 (a .text .now) (a .end) (a .to) (a .scratch .now) (k .last .1 .1 .1 .0) (k .result) (k .ensures) (c .enum-told .given .1))
+  read-either-returns c = let k = c .before .before .read-both in list-none _ either _ _ _ _ _ (k .ensures .size) (got-none _ _ _ _ _ _ _ _ (k .ensures) (c .enum-told .given .1))
 
   read-either-ends-in-requires : read-either-lts.Need-ends-in-requires read-either-claims (read-either-at t) read-either.Post
-  read-either-ends-in-requires c κs =
-      let s = c .before .before .before .before .before .before in
-      let a = s .args in
-      omega (arith, either-last c .paid, s .pre .1 .within)
+  read-either-ends-in-requires c κs = let g = either-last c in omega arith
 
   read-either-returns-2 : read-either-lts.Need-returns-2 read-either-claims (read-either-at t) read-either.Post
-  read-either-returns-2 c =
-      let s = c .before .before .before .before .before .before .before .before in
-      let a = s .args in
-      list-alone (a .n) either (a .text .now) (a .end) (a .to) (a .scratch .now) (c .before .before .before .before .before .read-both .last .1 .1 .1 .0) _ _ (either-last (c .before .before)) (sym (c .before .ends-in .ensures) ∙ not-true _ (c .if1 .taken))
+  read-either-returns-2 c = list-alone _ either _ _ _ _ _ _ _ (either-last (c .before .before)) (sym (c .before .ends-in .ensures) ∙ not-true _ (c .if1 .taken))
 
   read-either-sub-read-either : read-either-lts.Need-sub-read-either read-either-claims (read-either-at t) read-either.Post
-  read-either-sub-read-either c =
-      let a = c .before .before .before .before .before .before .before .before .args in
-      ends-some (a .text .now) _ 0x7C (sym (c .before .ends-in .ensures) ∙ not-false _ (c .if1 .left))
+  read-either-sub-read-either c = ends-some _ _ _ (sym (c .before .ends-in .ensures) ∙ not-false _ (c .if1 .left))
 
   read-either-read-either-requires : read-either-lts.Need-read-either-requires read-either-claims (read-either-at t) read-either.Post
   read-either-read-either-requires c κs =
-      let s = c .before .before .before .before .before .before .before .before .before in
-      let a = s .args in
-      let r = s .pre .1 in
       let g = either-last (c .before .before .before) in
-      let e = ends-some (a .text .now) _ 0x7C (sym (c .before .before .ends-in .ensures) ∙ not-false _ (c .before .if1 .left)) in (
-        omega (arith, g .paid, s .pre .0),
-        record {
-          within = omega (arith, g .paid, r .within);
-          enough = omega (arith, g .paid, g .begins, r .enough);
-          inside = omega (arith, g .begins, r .inside);
-          size = g .size ∙ r .size;
-        },
-      )
+      let e = ends-some _ _ _ (sym (c .before .before .ends-in .ensures) ∙ not-false _ (c .before .if1 .left)) in
+      let r = c .before .before .before .before .before .before .before .before .before .pre .1 in
+      (omega arith, record { within = omega arith; enough = omega arith; inside = omega arith; size = g .size ∙ r .size })
 
   read-either-enum-known-list : read-either-lts.Need-enum-known-list read-either-claims (read-either-at t) read-either.Post
   read-either-enum-known-list c = search needs
@@ -413,43 +285,31 @@ module _ (t : ℕ) where
 
   read-either-returns-3 : read-either-lts.Need-returns-3 read-either-claims (read-either-at t) read-either.Post
   read-either-returns-3 c =
-      let s = c .before .before .before .before .before .before .before .before .before .before .before .before in
-      let a = s .args in
       let k = c .before .before .read-either in
-      list-more-none (a .n) either (a .text .now) (a .end) (a .to) (a .scratch .now) (c .before .before .before .before .before .before .before .before .before .read-both .last .1 .1 .1 .0) _ _ (either-last (c .before .before .before .before .before .before)) (sym (c .before .before .before .before .before .ends-in .ensures) ∙ not-false _ (c .before .before .before .before .if1 .left)) (k .last .1 .1 .1 .0) (k .ensures .size)
-      (got-none (a .n) 2 (a .text .now) (c .before .before .before .before .before .before .before .part .given .0 .0 - 1) (c .before .before .before .before .before .before .before .part .given .0 .1 .0) (c .before .before .before .before .before .before .before .before .before .read-both .last .1 .1 .1 .0) (k .last .1 .1 .1 .0) (k .result) (k .ensures) (c .enum-told2 .given .1))
+      list-more-none _ either _ _ _ _ _ _ _ (either-last (c .before .before .before .before .before .before)) (sym (c .before .before .before .before .before .ends-in .ensures) ∙ not-false _ (c .before .before .before .before .if1 .left)) _ (k .ensures .size) (got-none _ _ _ _ _ _ _ _ (k .ensures) (c .enum-told2 .given .1))
 
   read-either-sub-scratch : read-either-lts.Need-sub-scratch read-either-claims (read-either-at t) read-either.Post
   read-either-sub-scratch c =
-      let s = c .before .before .before .before .before .before .before .before .before .before .before .before .before in
-      let a = s .args in
       let g = either-last (c .before .before .before .before .before .before .before) in
       let m = either-more c in
-      let e = ends-some (a .text .now) _ 0x7C (sym (c .before .before .before .before .before .before .ends-in .ensures) ∙ not-false _ (c .before .before .before .before .before .if1 .left)) in
-      omega (arith, g .paid, g .begins, m .paid, m .begins, s .pre .1 .enough)
+      let e = ends-some _ _ _ (sym (c .before .before .before .before .before .before .ends-in .ensures) ∙ not-false _ (c .before .before .before .before .before .if1 .left)) in
+      omega arith
 
   read-either-element-write-scratch : read-either-lts.Need-element-write-scratch read-either-claims (read-either-at t) read-either.Post
   read-either-element-write-scratch c =
-      let s = c .before .before .before .before .before .before .before .before .before .before .before .before .before in
-      let a = s .args in
       let g = either-last (c .before .before .before .before .before .before .before) in
       let m = either-more c in
-      omega (arith, g .begins, m .begins, s .pre .1 .inside)
+      omega arith
 
   read-either-sub-t15 : read-either-lts.Need-sub-t15 read-either-claims (read-either-at t) read-either.Post
   read-either-sub-t15 c =
-      let s = c .before .before .before .before .before .before .before .before .before .before .before .before .before in
-      let a = s .args in
       let g = either-last (c .before .before .before .before .before .before .before) in
       let m = either-more c in
-      let e = ends-some (a .text .now) _ 0x7C (sym (c .before .before .before .before .before .before .ends-in .ensures) ∙ not-false _ (c .before .before .before .before .before .if1 .left)) in
-      omega (arith, g .paid, g .begins, m .paid, m .begins, s .pre .1 .enough)
+      let e = ends-some _ _ _ (sym (c .before .before .before .before .before .before .ends-in .ensures) ∙ not-false _ (c .before .before .before .before .before .if1 .left)) in
+      omega arith
 
   read-either-returns-4 : read-either-lts.Need-returns-4 read-either-claims (read-either-at t) read-either.Post
-  read-either-returns-4 c =
-      let s = c .before .before .before .before .before .before .before .before .before .before .before .before .before in
-      let a = s .args in
-      list-more (a .n) either (a .text .now) (a .end) (a .to) (a .scratch .now) (c .before .before .before .before .before .before .before .before .before .before .read-both .last .1 .1 .1 .0) _ _ (either-last (c .before .before .before .before .before .before .before)) (sym (c .before .before .before .before .before .before .ends-in .ensures) ∙ not-false _ (c .before .before .before .before .before .if1 .left)) (c .before .before .before .read-either .last .1 .1 .1 .0) _ _ (either-more c) (s .pre .1 .enough) (omega (arith, s .pre .1 .inside, s .pre .1 .size))
+  read-either-returns-4 c = list-more _ either _ _ _ _ _ _ _ (either-last (c .before .before .before .before .before .before .before)) (sym (c .before .before .before .before .before .before .ends-in .ensures) ∙ not-false _ (c .before .before .before .before .before .if1 .left)) _ _ _ (either-more c) (search needs) (omega arith)
 
 pub +read-atom+read-both+read-either-spec : {M : Type 1} → statement M
 +read-atom+read-both+read-either-spec =

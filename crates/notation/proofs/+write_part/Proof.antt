@@ -35,36 +35,28 @@ module _ (t : ℕ) where
   whole : (c : write-part-lts.After-known-told write-part-claims (write-part-at t) write-part.Post) →
       let a = c .before .before .before .before .before .before .before .before .args in
       IsWhole (a .codes .now) (a .at) (c .before .mark .given .0 .0)
-  whole c =
-      let a = c .before .before .before .before .before .before .before .before .args in
-      whole-at (a .codes .now) (a .at) (omega (arith, c .before .before .before .before .before .if1 .left)) _ (sym (c .before .before .before .mark-of .ensures) ∙ c .before .mark .given .1)
+  whole c = whole-at _ _ (omega arith) _ (sym (c .before .before .before .mark-of .ensures) ∙ c .before .mark .given .1)
 
   signed : (c : write-part-lts.After-known-told2 write-part-claims (write-part-at t) write-part.Post) →
       let a = c .before .before .before .before .before .before .before .before .args in
       IsSigned (a .codes .now) (a .at) (c .before .mark2 .given .0 .0)
-  signed c =
-      let a = c .before .before .before .before .before .before .before .before .args in
-      signed-at (a .codes .now) (a .at) (omega (arith, c .before .before .before .before .before .if1 .left)) _ (sym (c .before .before .before .mark-of .ensures) ∙ c .before .mark2 .given .1)
+  signed c = signed-at _ _ (omega arith) _ (sym (c .before .before .before .mark-of .ensures) ∙ c .before .mark2 .given .1)
 
   joined : (c : write-part-lts.After-known-told3 write-part-claims (write-part-at t) write-part.Post) (next : ℕ) →
       let a = c .before .before .before .before .before .before .before .before .args in
-      next ≡ a .at + 1 + taken (drop (a .at + 1) (a .codes .now)) .size → IsJoined (a .codes .now) (a .at) (c .before .mark3 .given .0 .0) (c .before .mark3 .given .0 .1 .0) (c .before .mark3 .given .0 .1 .1 .0) next
-  joined c next e =
-      let a = c .before .before .before .before .before .before .before .before .args in
-      joined-at (a .codes .now) (a .at) (omega (arith, c .before .before .before .before .before .if1 .left)) _ _ _ next (sym (c .before .before .before .mark-of .ensures) ∙ c .before .mark3 .given .1) e
+      let m = c .before .mark3 .given .0 in
+      next ≡ a .at + 1 + taken (drop (a .at + 1) (a .codes .now)) .size → IsJoined (a .codes .now) (a .at) (m .0) (m .1 .0) (m .1 .1 .0) next
+  joined c next e = joined-at _ _ (omega arith) _ _ _ _ (sym (c .before .before .before .mark-of .ensures) ∙ c .before .mark3 .given .1) e
 
   write-part-slice-write-text : write-part-lts.Need-slice-write-text write-part-claims (write-part-at t) write-part.Post
   write-part-slice-write-text c =
       let s = c .before .before .before in
-      let a = s .args in
-      none-room (a .codes .now) (a .at) (a .rank) (a .text .now) (a .to) (s .pre .1) (c .if1 .taken)
+      none-room _ _ _ (s .args .text .now) _ (s .pre .1) (c .if1 .taken)
 
   write-part-add-t22 : write-part-lts.Need-add-t22 write-part-claims (write-part-at t) write-part.Post
   write-part-add-t22 c =
       let s = c .before .before .before in
-      let a = s .args in
-      let r = none-room (a .codes .now) (a .at) (a .rank) (a .text .now) (a .to) (s .pre .1) (c .if1 .taken) in
-      search needs
+      let r = none-room _ _ _ (s .args .text .now) _ (s .pre .1) (c .if1 .taken) in search needs
 
   write-part-same-length : write-part-lts.Need-same-length write-part-claims (write-part-at t) write-part.Post
   write-part-same-length c = search needs
@@ -72,8 +64,7 @@ module _ (t : ℕ) where
   write-part-returns : write-part-lts.Need-returns write-part-claims (write-part-at t) write-part.Post
   write-part-returns c =
       let s = c .before .before .before in
-      let a = s .args in
-      none-wrote (a .codes .now) (a .at) (a .rank) (a .text .now) (a .to) (s .pre .1) (c .if1 .taken)
+      none-wrote _ _ _ (s .args .text .now) _ (s .pre .1) (c .if1 .taken)
 
   write-part-shared-slice-read-mark-of : write-part-lts.Need-shared-slice-read-mark-of write-part-claims (write-part-at t) write-part.Post
   write-part-shared-slice-read-mark-of c = search needs
@@ -87,49 +78,36 @@ module _ (t : ℕ) where
   write-part-slice-write-text-2 : write-part-lts.Need-slice-write-text-2 write-part-claims (write-part-at t) write-part.Post
   write-part-slice-write-text-2 c =
       let s = c .before .before .before .before .before .before .before .before in
-      let a = s .args in
-      whole-room (a .codes .now) (a .at) (a .rank) (a .text .now) (a .to) (s .pre .1) _ (whole c)
+      whole-room _ _ _ (s .args .text .now) _ (s .pre .1) _ (whole c)
 
   write-part-add-t27 : write-part-lts.Need-add-t27 write-part-claims (write-part-at t) write-part.Post
-  write-part-add-t27 c =
-      let l = c .before .before .before .before .before .if1 .left in
-      search needs
+  write-part-add-t27 c = search needs
 
   write-part-add-t28 : write-part-lts.Need-add-t28 write-part-claims (write-part-at t) write-part.Post
   write-part-add-t28 c =
       let s = c .before .before .before .before .before .before .before .before in
-      let a = s .args in
-      let r = whole-room (a .codes .now) (a .at) (a .rank) (a .text .now) (a .to) (s .pre .1) _ (whole c) in
-      search needs
+      let r = whole-room _ _ _ (s .args .text .now) _ (s .pre .1) _ (whole c) in search needs
 
   write-part-enum-known-mark-2 : write-part-lts.Need-enum-known-mark-2 write-part-claims (write-part-at t) write-part.Post
   write-part-enum-known-mark-2 c = search needs
 
   write-part-add-write-part : write-part-lts.Need-add-write-part write-part-claims (write-part-at t) write-part.Post
-  write-part-add-write-part c =
-      let l = c .before .before .before .before .before .if1 .left in
-      search needs
+  write-part-add-write-part c = search needs
 
   write-part-write-part-requires : write-part-lts.Need-write-part-requires write-part-claims (write-part-at t) write-part.Post
   write-part-write-part-requires c κs =
       let s = c .before .before .before .before .before .before .before .before .before in
-      let a = s .args in
-      (omega (arith, s .pre .0, c .before .before .before .before .before .before .if1 .left), part-room (a .codes .now) (a .at) (a .rank) (a .text .now) (a .to) (s .pre .1) _ (signed (c .before)))
+      (omega arith, part-room _ _ _ (s .args .text .now) _ (s .pre .1) _ (signed (c .before)))
 
   write-part-slice-write-text-3 : write-part-lts.Need-slice-write-text-3 write-part-claims (write-part-at t) write-part.Post
   write-part-slice-write-text-3 c =
       let s = c .before .before .before .before .before .before .before .before .before .before .before .before in
-      let a = s .args in
-      let w = c .before .before .write-part in
-      sign-room (a .codes .now) (a .at) (a .rank) (a .text .now) (a .to) (s .pre .1) _ (signed (c .before .before .before .before)) (w .last .1 .1 .1 .0) (w .result .next) (w .result .to) (w .ensures)
+      sign-room _ _ _ (s .args .text .now) _ (s .pre .1) _ (signed (c .before .before .before .before)) _ _ _ (c .before .before .write-part .ensures)
 
   write-part-add-t29 : write-part-lts.Need-add-t29 write-part-claims (write-part-at t) write-part.Post
   write-part-add-t29 c =
       let s = c .before .before .before .before .before .before .before .before .before .before .before .before in
-      let a = s .args in
-      let w = c .before .before .write-part in
-      let r = sign-inside (a .codes .now) (a .at) (a .rank) (a .text .now) (a .to) (s .pre .1) _ (signed (c .before .before .before .before)) (w .last .1 .1 .1 .0) (w .result .next) (w .result .to) (w .ensures) in
-      search needs
+      let r = sign-inside _ _ _ (s .args .text .now) _ (s .pre .1) _ (signed (c .before .before .before .before)) _ _ _ (c .before .before .write-part .ensures) in search needs
 
   write-part-enum-known-mark-3 : write-part-lts.Need-enum-known-mark-3 write-part-claims (write-part-at t) write-part.Post
   write-part-enum-known-mark-3 c = search needs
@@ -137,58 +115,40 @@ module _ (t : ℕ) where
   write-part-put-bracket-requires : write-part-lts.Need-put-bracket-requires write-part-claims (write-part-at t) write-part.Post
   write-part-put-bracket-requires c κs =
       let s = c .before .before .before .before .before .before .before .before .before in
-      let a = s .args in
-      open-room (a .codes .now) (a .at) (a .rank) (a .text .now) (a .to) (s .pre .1) _ _ _ _ (joined (c .before) _ refl)
+      open-room _ _ _ (s .args .text .now) _ (s .pre .1) _ _ _ _ (joined (c .before) _ refl)
 
   write-part-add-write-part-2 : write-part-lts.Need-add-write-part-2 write-part-claims (write-part-at t) write-part.Post
-  write-part-add-write-part-2 c =
-      let l = c .before .before .before .before .before .before .before .before .before .if1 .left in
-      search needs
+  write-part-add-write-part-2 c = search needs
 
   write-part-write-part-requires-2 : write-part-lts.Need-write-part-requires-2 write-part-claims (write-part-at t) write-part.Post
   write-part-write-part-requires-2 c κs =
       let s = c .before .before .before .before .before .before .before .before .before .before .before .before .before in
-      let a = s .args in
-      let o = c .before .before .before .put-bracket in
-      (omega (arith, s .pre .0, c .before .before .before .before .before .before .before .before .before .before .if1 .left), left-room (a .codes .now) (a .at) (a .rank) (a .text .now) (a .to) (s .pre .1) _ _ _ _ (joined (c .before .before .before .before .before) _ refl) (o .last .1 .1 .1 .0) (o .result) (o .ensures))
+      (omega arith, left-room _ _ _ (s .args .text .now) _ (s .pre .1) _ _ _ _ (joined (c .before .before .before .before .before) _ refl) _ _ (c .before .before .before .put-bracket .ensures))
 
   write-part-slice-write-text-4 : write-part-lts.Need-slice-write-text-4 write-part-claims (write-part-at t) write-part.Post
   write-part-slice-write-text-4 c =
       let s = c .before .before .before .before .before .before .before .before .before .before .before .before .before .before .before .before in
-      let a = s .args in
-      let o = c .before .before .before .before .before .before .put-bracket in
-      let w = c .before .before .write-part2 in
-      let j = joined (c .before .before .before .before .before .before .before .before) (w .result .next) (w .ensures .past) in
-      joiner-room (a .codes .now) (a .at) (a .rank) (a .text .now) (a .to) (s .pre .1) _ _ _ _ j (o .last .1 .1 .1 .0) (o .result) (o .ensures) (w .last .1 .1 .1 .0) (w .result .to) (w .ensures)
+      let w = c .before .before .write-part2 .ensures in
+      joiner-room _ _ _ (s .args .text .now) _ (s .pre .1) _ _ _ _ (joined (c .before .before .before .before .before .before .before .before) _ (w .past)) _ _ (c .before .before .before .before .before .before .put-bracket .ensures) _ _ w
 
   write-part-add-write-part-3 : write-part-lts.Need-add-write-part-3 write-part-claims (write-part-at t) write-part.Post
   write-part-add-write-part-3 c =
       let s = c .before .before .before .before .before .before .before .before .before .before .before .before .before .before .before .before .before in
-      let a = s .args in
-      let o = c .before .before .before .before .before .before .before .put-bracket in
-      let w = c .before .before .before .write-part2 in
-      let j = joined (c .before .before .before .before .before .before .before .before .before) (w .result .next) (w .ensures .past) in
-      let r = joiner-inside (a .codes .now) (a .at) (a .rank) (a .text .now) (a .to) (s .pre .1) _ _ _ _ j (o .last .1 .1 .1 .0) (o .result) (o .ensures) (w .last .1 .1 .1 .0) (w .result .to) (w .ensures) in
+      let w = c .before .before .before .write-part2 .ensures in
+      let r = joiner-inside _ _ _ (s .args .text .now) _ (s .pre .1) _ _ _ _ (joined (c .before .before .before .before .before .before .before .before .before) _ (w .past)) _ _ (c .before .before .before .before .before .before .before .put-bracket .ensures) _ _ w in
       search needs
 
   write-part-write-part-requires-3 : write-part-lts.Need-write-part-requires-3 write-part-claims (write-part-at t) write-part.Post
   write-part-write-part-requires-3 c κs =
       let s = c .before .before .before .before .before .before .before .before .before .before .before .before .before .before .before .before .before in
-      let a = s .args in
-      let o = c .before .before .before .before .before .before .before .put-bracket in
-      let w = c .before .before .before .write-part2 in
-      let j = joined (c .before .before .before .before .before .before .before .before .before) (w .result .next) (w .ensures .past) in
-      (omega (arith, s .pre .0, c .before .before .before .before .before .before .before .before .before .before .before .before .before .before .if1 .left, w .ensures .past), right-room (a .codes .now) (a .at) (a .rank) (a .text .now) (a .to) (s .pre .1) _ _ _ _ j (o .last .1 .1 .1 .0) (o .result) (o .ensures) (w .last .1 .1 .1 .0) (w .result .to) (w .ensures))
+      let w = c .before .before .before .write-part2 .ensures in
+      (omega (arith, w .past), right-room _ _ _ (s .args .text .now) _ (s .pre .1) _ _ _ _ (joined (c .before .before .before .before .before .before .before .before .before) _ (w .past)) _ _ (c .before .before .before .before .before .before .before .put-bracket .ensures) _ _ w)
 
   write-part-put-bracket-requires-2 : write-part-lts.Need-put-bracket-requires-2 write-part-claims (write-part-at t) write-part.Post
   write-part-put-bracket-requires-2 c κs =
       let s = c .before .before .before .before .before .before .before .before .before .before .before .before .before .before .before .before .before .before .before .before .before in
-      let a = s .args in
-      let o = c .before .before .before .before .before .before .before .before .before .before .before .put-bracket in
-      let w = c .before .before .before .before .before .before .before .write-part2 in
-      let j = joined (c .before .before .before .before .before .before .before .before .before .before .before .before .before) (w .result .next) (w .ensures .past) in
-      let v = c .before .before .before .write-part3 in
-      close-room (a .codes .now) (a .at) (a .rank) (a .text .now) (a .to) (s .pre .1) _ _ _ _ j (o .last .1 .1 .1 .0) (o .result) (o .ensures) (w .last .1 .1 .1 .0) (w .result .to) (w .ensures) (v .last .1 .1 .1 .0) (v .result .next) (v .result .to) (v .ensures)
+      let w = c .before .before .before .before .before .before .before .write-part2 .ensures in
+      close-room _ _ _ (s .args .text .now) _ (s .pre .1) _ _ _ _ (joined (c .before .before .before .before .before .before .before .before .before .before .before .before .before) _ (w .past)) _ _ (c .before .before .before .before .before .before .before .before .before .before .before .put-bracket .ensures) _ _ w _ _ _ (c .before .before .before .write-part3 .ensures)
 
   write-part-same-length-2 : write-part-lts.Need-same-length-2 write-part-claims (write-part-at t) write-part.Post
   write-part-same-length-2 c = search needs
@@ -196,8 +156,7 @@ module _ (t : ℕ) where
   write-part-returns-2 : write-part-lts.Need-returns-2 write-part-claims (write-part-at t) write-part.Post
   write-part-returns-2 c =
       let s = c .before .before .before .before .before .before .before .before in
-      let a = s .args in
-      whole-wrote (a .codes .now) (a .at) (a .rank) (a .text .now) (a .to) (s .pre .1) _ (whole c)
+      whole-wrote _ _ _ (s .args .text .now) _ (s .pre .1) _ (whole c)
 
   write-part-same-length-3 : write-part-lts.Need-same-length-3 write-part-claims (write-part-at t) write-part.Post
   write-part-same-length-3 c = search needs
@@ -205,28 +164,16 @@ module _ (t : ℕ) where
   write-part-returns-3 : write-part-lts.Need-returns-3 write-part-claims (write-part-at t) write-part.Post
   write-part-returns-3 c =
       let s = c .before .before .before .before .before .before .before .before .before .before .before .before in
-      let a = s .args in
-      let w = c .before .before .write-part in
-      signed-wrote (a .codes .now) (a .at) (a .rank) (a .text .now) (a .to) (s .pre .1) _ (signed (c .before .before .before .before)) (w .last .1 .1 .1 .0) (w .result .next) (w .result .to) (w .ensures)
+      signed-wrote _ _ _ (s .args .text .now) _ (s .pre .1) _ (signed (c .before .before .before .before)) _ _ _ (c .before .before .write-part .ensures)
 
   write-part-same-length-4 : write-part-lts.Need-same-length-4 write-part-claims (write-part-at t) write-part.Post
-  write-part-same-length-4 c =
-      let o = c .before .before .before .before .before .before .before .before .before .before .before .before .before .before .put-bracket in
-      let w = c .before .before .before .before .before .before .before .before .before .before .write-part2 in
-      let v = c .before .before .before .before .before .before .write-part3 in
-      let z = c .before .before .put-bracket2 in
-      z .kept .1 .1 .1 .0 ∙ v .kept .1 .1 .1 .0 ∙ length-set (w .last .1 .1 .1 .0) (w .result .to) (c .before .before .before .before .before .before .before .before .before .before .before .before .before .before .before .before .before .mark3 .given .0 .0) ∙ w .kept .1 .1 .1 .0 ∙ o .kept .1 .1 .1 .0
+  write-part-same-length-4 c = c .before .before .put-bracket2 .kept .1 .1 .1 .0 ∙ c .before .before .before .before .before .before .write-part3 .kept .1 .1 .1 .0 ∙ length-set (c .before .before .before .before .before .before .before .before .before .before .write-part2 .last .1 .1 .1 .0) _ _ ∙ c .before .before .before .before .before .before .before .before .before .before .write-part2 .kept .1 .1 .1 .0 ∙ c .before .before .before .before .before .before .before .before .before .before .before .before .before .before .put-bracket .kept .1 .1 .1 .0
 
   write-part-returns-4 : write-part-lts.Need-returns-4 write-part-claims (write-part-at t) write-part.Post
   write-part-returns-4 c =
       let s = c .before .before .before .before .before .before .before .before .before .before .before .before .before .before .before .before .before .before .before .before .before .before .before .before in
-      let a = s .args in
-      let o = c .before .before .before .before .before .before .before .before .before .before .before .before .before .before .put-bracket in
-      let w = c .before .before .before .before .before .before .before .before .before .before .write-part2 in
-      let j = joined (c .before .before .before .before .before .before .before .before .before .before .before .before .before .before .before .before) (w .result .next) (w .ensures .past) in
-      let v = c .before .before .before .before .before .before .write-part3 in
-      let z = c .before .before .put-bracket2 in
-      joined-wrote (a .codes .now) (a .at) (a .rank) (a .text .now) (a .to) (s .pre .1) _ _ _ _ j (o .last .1 .1 .1 .0) (o .result) (o .ensures) (w .last .1 .1 .1 .0) (w .result .to) (w .ensures) (v .last .1 .1 .1 .0) (v .result .next) (v .result .to) (v .ensures) (z .last .1 .1 .1 .0) (z .result) (z .ensures)
+      let w = c .before .before .before .before .before .before .before .before .before .before .write-part2 .ensures in
+      joined-wrote _ _ _ (s .args .text .now) _ (s .pre .1) _ _ _ _ (joined (c .before .before .before .before .before .before .before .before .before .before .before .before .before .before .before .before) _ (w .past)) _ _ (c .before .before .before .before .before .before .before .before .before .before .before .before .before .before .put-bracket .ensures) _ _ w _ _ _ (c .before .before .before .before .before .before .write-part3 .ensures) _ _ (c .before .before .put-bracket2 .ensures)
 
 pub +write-part-spec : {M : Type 1} → statement M
 +write-part-spec =

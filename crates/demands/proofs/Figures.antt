@@ -124,11 +124,11 @@ module _ (most : ℕ) (refusals : List Range) where
 pub short-forms-answered : ShortFormsAnswered
 unfolding shorten shortFormOf
 short-forms-answered n term buffer =
-    front-answered 3700 shortFormRefusals (shortFormOf n term (length buffer)) buffer
+    front-answered _ _ (shortFormOf n term (length buffer)) buffer
     (only-require (OneOf shortFormRefusals) (jobSize n) 7 _ (inl (omega arith, omega arith))
     (only-require (OneOf shortFormRefusals) (leb 3700 (length buffer)) 8 _ (inl (omega arith, omega arith))
     (only-then (OneOf shortFormRefusals) (readTerm n term) _ (only-term (OneOf shortFormRefusals) n term (λ r a b. inr (inl (a, b)))) (λ t. tt))))
-    (written-few n term buffer)
+    (λ k e. omega (arith, written-few n term buffer k e))
 
 text-only : (n : ℕ) (text : List ℕ) (size : ℕ) → Only (OneOf textRefusals) (textCodes n text size)
 unfolding textCodes
@@ -153,8 +153,8 @@ term-only n term size =
 pub notation-answered : NotationAnswered
 unfolding readText writeTerm
 notation-answered = record {
-  texts = λ n text buffer. front-answered 64 textRefusals (textCodes n text (length buffer)) buffer (text-only n text (length buffer)) (text-few n text buffer);
-  terms = λ n term buffer. front-answered 192 termRefusals (termText n term (length buffer)) buffer (term-only n term (length buffer)) (λ k e. omega (arith, term-few n term buffer k e));
+  texts = λ n text buffer. front-answered _ _ (textCodes n text (length buffer)) buffer (text-only n text (length buffer)) (λ k e. omega (arith, text-few n text buffer k e));
+  terms = λ n term buffer. front-answered _ _ (termText n term (length buffer)) buffer (term-only n term (length buffer)) (λ k e. omega (arith, term-few n term buffer k e));
 }
 
 -- ---- derivations

@@ -1,6 +1,4 @@
 -- Laws that the proofs of the functions cite, and what a caller knows from the reader's answer.
-pub mod Sums
-pub mod Columns
 pub mod Checks
 pub mod Shapes
 pub mod Readers

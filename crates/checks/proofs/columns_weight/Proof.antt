@@ -1,4 +1,4 @@
--- `ledgers::columns_weight` meets its contract. The loop's invariant: `run` is the total of the columns passed, and `sum` their weight, each of
+-- `checks::columns_weight` meets its contract. The loop's invariant: `run` is the total of the columns passed, and `sum` their weight, each of
 -- which added at most 4,080 and 17 × 65,280. Assumes nothing.
 use Prim.Native.Nat.{ℕ, _+_, _-_, _*_, _≤_}
 use native.Mathlib.Omega.{arith}
@@ -6,10 +6,10 @@ use mathlib.Core.Path.{_≡_}
 use mathlib.Core.List.{List}
 use lib.ListN.{drop, getD}
 use Rattle.model.specs.Ledgers.{weighted}
-use Rattle.ledgers.specs.Columns.{total}
-use Rattle.ledgers.proofs.Sums.{total-next, total-end, weight-end, weight-once-more}
-use Rattle.ledgers.proofs.columns_weight.Statement.{statement}
-use Rattle.ledgers.proofs.columns_weight.Tie as tie
+use Rattle.checks.specs.Columns.{total}
+use Rattle.checks.proofs.Sums.{total-next, total-end, weight-end, weight-once-more}
+use Rattle.checks.proofs.columns_weight.Statement.{statement}
+use Rattle.checks.proofs.columns_weight.Tie as tie
 
 -- the sums from column j on
 record From (sums runs : List ℕ) (run sum j : ℕ) : Type 0 where

@@ -1,14 +1,14 @@
--- `ledgers::add_row` meets its contract. The loop's invariant: the row is added in the columns passed, and the sums of before it to the running
+-- `checks::add_row` meets its contract. The loop's invariant: the row is added in the columns passed, and the sums of before it to the running
 -- ones. Assumes nothing.
 use Prim.Native.Nat.{ℕ, _-_, _≤_}
 use native.Mathlib.Omega.{arith}
 use mathlib.Core.Path.{_≡_, refl, ap, _∙_}
 use mathlib.Core.List.{List}
 use lib.ListN.{getD}
-use Rattle.ledgers.specs.Columns.{added}
-use Rattle.ledgers.proofs.Columns.{added-at, added-more}
-use Rattle.ledgers.proofs.add_row.Statement.{statement}
-use Rattle.ledgers.proofs.add_row.Tie as tie
+use Rattle.checks.specs.Columns.{added}
+use Rattle.checks.proofs.Columns.{added-at, added-more}
+use Rattle.checks.proofs.add_row.Statement.{statement}
+use Rattle.checks.proofs.add_row.Tie as tie
 
 abbrev Inv-loop : tie.InvT-loop
 Inv-loop sums₀ runs₀ row j₀ sums runs j = (j ≤ 16) × (sums ≡ added j sums₀ row) × (runs ≡ added j runs₀ sums₀)

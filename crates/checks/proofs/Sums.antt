@@ -11,7 +11,7 @@ use lib.ListN.{length, take, drop, getD, drop-of-length-le}
 use lib.Seq.{drop-cons, length-take-le, take-add}
 use Rattle.model.specs.Bytes.{zeros}
 use Rattle.model.specs.Ledgers.{weighted}
-use Rattle.ledgers.specs.Columns.{total}
+use Rattle.checks.specs.Columns.{total}
 
 -- ---- one number after another: number i, and what comes after it
 module _ (l : List ℕ) (i : ℕ) (h : i < length l) where

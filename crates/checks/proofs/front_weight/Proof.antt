@@ -1,13 +1,13 @@
--- `ledgers::front_weight` meets its contract. The loop's invariant: the columns have the sums of the rows from `at` on. Assumes nothing.
+-- `checks::front_weight` meets its contract. The loop's invariant: the columns have the sums of the rows from `at` on. Assumes nothing.
 use Prim.Native.Nat.{ℕ, suc, _+_, _*_, _≤_}
 use native.Mathlib.Omega.{arith}
 use mathlib.Core.Path.{_≡_, refl, _∙_}
 use mathlib.Core.List.{List}
 use lib.ListN.{drop, getD, length-take, length-drop}
 use lib.Seq.{getD-drop}
-use Rattle.ledgers.proofs.Columns.{sumsOf, runsOf, columns, sums-more, runs-more, front-weight}
-use Rattle.ledgers.proofs.front_weight.Statement.{statement}
-use Rattle.ledgers.proofs.front_weight.Tie as tie
+use Rattle.checks.proofs.Columns.{sumsOf, runsOf, columns, sums-more, runs-more, front-weight}
+use Rattle.checks.proofs.front_weight.Statement.{statement}
+use Rattle.checks.proofs.front_weight.Tie as tie
 
 -- the rows from `at` on are added
 record From (block sums runs : List ℕ) (at : ℕ) : Type 0 where

@@ -1,4 +1,4 @@
--- `ledgers::weight` meets its contract: the first 256 bytes, and the 254 that follow, which weigh nothing where they are filler.
+-- `checks::weight` meets its contract: the first 256 bytes, and the 254 that follow, which weigh nothing where they are filler.
 -- Assumes nothing.
 use Prim.Native.Nat.{_+_}
 use native.Mathlib.Omega.{arith}
@@ -6,9 +6,9 @@ use mathlib.Core.Path.{_≡_, sym, _∙_}
 use lib.ListN.{take}
 use borrow.Author.Needs.{needs}
 use Rattle.model.specs.Ledgers.{weighted}
-use Rattle.ledgers.proofs.Sums.{weight-parts, weighted-zeros, weighted-most}
-use Rattle.ledgers.proofs.weight.Statement.{statement}
-use Rattle.ledgers.proofs.weight.Tie as tie
+use Rattle.checks.proofs.Sums.{weight-parts, weighted-zeros, weighted-most}
+use Rattle.checks.proofs.weight.Statement.{statement}
+use Rattle.checks.proofs.weight.Tie as tie
 
 -- both parts
 whole : (c : tie.After-rest-weight) → c .before .before .before .before .front-weight .result + c .rest-weight .result ≡ weighted 0 (take 510 (c .before .before .before .before .before .before .args .block .now))

@@ -8,8 +8,8 @@ use mathlib.Core.List.{List, [], _∷_}
 use lib.ListN.{length, take, drop, getD, set, replicate, length-drop}
 use lib.Seq.{take-all, take-add, drop-drop, getD-drop}
 use Rattle.model.specs.Ledgers.{weighted}
-use Rattle.ledgers.specs.Columns.{total, added, Columns}
-use Rattle.ledgers.proofs.Sums.{total-append, weight-rows}
+use Rattle.checks.specs.Columns.{total, added, Columns}
+use Rattle.checks.proofs.Sums.{total-append, weight-rows}
 
 -- ---- one list added to another
 length-added : (k : ℕ) (s l : List ℕ) → length (added k s l) ≡ length s

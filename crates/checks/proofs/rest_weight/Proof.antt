@@ -1,4 +1,4 @@
--- `ledgers::rest_weight` meets its contract. The loop's invariant: what was summed, with the weight of the bytes to come, is the whole weight,
+-- `checks::rest_weight` meets its contract. The loop's invariant: what was summed, with the weight of the bytes to come, is the whole weight,
 -- and each byte passed added at most 510 × 255. Assumes nothing.
 use Prim.Native.Nat.{_+_, _-_, _*_, _≤_}
 use native.Mathlib.Nat.{zero-add, mul-le-mul}
@@ -6,9 +6,9 @@ use native.Mathlib.Omega.{arith}
 use mathlib.Core.Path.{_≡_}
 use lib.ListN.{drop, getD}
 use Rattle.model.specs.Ledgers.{weighted}
-use Rattle.ledgers.proofs.Sums.{weight-next, weight-end}
-use Rattle.ledgers.proofs.rest_weight.Statement.{statement}
-use Rattle.ledgers.proofs.rest_weight.Tie as tie
+use Rattle.checks.proofs.Sums.{weight-next, weight-end}
+use Rattle.checks.proofs.rest_weight.Statement.{statement}
+use Rattle.checks.proofs.rest_weight.Tie as tie
 
 abbrev Inv-loop : tie.InvT-loop
 Inv-loop rest sum₀ i₀ sum i = (i ≤ 254) × (sum ≤ 130050 * i) × (sum + weighted (i + 256) (drop i rest) ≡ weighted 256 rest)

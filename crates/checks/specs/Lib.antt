@@ -1,0 +1,3 @@
+-- What the promises cite beside the model's definitions.
+pub mod Columns
+pub mod Blocks

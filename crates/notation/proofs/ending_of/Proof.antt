@@ -4,6 +4,7 @@ use mathlib.Core.Path.{_≡_}
 use mathlib.Core.Bool.{cond, _&&_}
 use Prim.Native.Nat.{_-_}
 use lib.Dec.{leb, ltb}
+use native.Mathlib.Omega.{arith}
 use borrow.Author.Needs.{needs}
 use borrow.Author.Tests.{lt-leb, le-leb, lt-ltb, le-ltb}
 use Rattle.model.specs.Terms.{codes}
@@ -32,7 +33,9 @@ cast-if3 : tie.Need-cast-if3
 cast-if3 c = search needs
 
 returns-3 : tie.Need-returns-3
-returns-3 c = rw (plain (c .before .before .before), le-leb _ _ (c .before .before .if1 .left), lt-ltb _ _ (c .before .if2 .left), le-ltb _ _ (c .if3 .taken))
+returns-3 c =
+    let a = c .before .before .before .before .args in
+    rw (plain (c .before .before .before), le-leb _ _ (c .before .before .if1 .left), lt-ltb _ _ (c .before .if2 .left), le-ltb (a .c - 0x61) (a .n) (omega arith))
 
 returns-4 : tie.Need-returns-4
 unfolding lastOf term codes
@@ -56,7 +59,9 @@ returns-8 c = rw (c .match .keys5)
 
 returns-9 : tie.Need-returns-9
 unfolding term codes
-returns-9 c = rw (plain (c .before .before .before), le-leb _ _ (c .before .before .if1 .left), lt-ltb _ _ (c .before .if2 .left), lt-ltb _ _ (c .if3 .left))
+returns-9 c =
+    let a = c .before .before .before .before .args in
+    rw (plain (c .before .before .before), le-leb _ _ (c .before .before .if1 .left), lt-ltb _ _ (c .before .if2 .left), lt-ltb (a .c - 0x61) (a .n) (omega arith))
 
 pub ending-of-spec : {M : Type 1} → statement M
 ending-of-spec =

@@ -1,5 +1,8 @@
 -- `notation::read_text` meets its contract: each return is a law of `proofs/Calls.antt`. Assumes nothing.
-use Prim.Native.Nat.{_≤_}
+use Prim.Native.Nat.{ℕ, _≤_, _<_}
+use mathlib.Core.Path.{_≡_}
+use mathlib.Core.Bool.{true}
+use lib.Dec.{ltb}
 use native.Mathlib.Omega.{arith}
 use mathlib.Core.Logic.{inl, inr, ⊎-elim}
 use lib.ListN.{length, replicate}
@@ -17,11 +20,15 @@ use Rattle.notation.proofs.read_text.Lts as lts
 returns : tie.Need-returns
 returns c = text-7 _ _ _ (⊎-elim (λ w. inl (w .taken)) (λ w. inr (ltb-true _ _ (w .1 .taken))) (c .if1 .came))
 
+-- what is over a number that is at least 256
+over : {k l : ℕ} → ltb k l ≡ true → 256 ≤ k → 256 < l
+over {k} {l} e h = omega (arith, ltb-true k l e)
+
 returns-2 : tie.Need-returns-2
-returns-2 c = text-81 _ _ _ (omega arith) (search needs) (⊎-elim (λ w. inl (w .taken)) (λ w. inr (ltb-true _ _ (w .1 .taken))) (c .if3 .came))
+returns-2 c = text-81 _ _ _ (omega arith) (search needs) (⊎-elim (λ w. inl (w .taken)) (λ w. inr (over (w .1 .taken) (omega arith))) (c .if3 .came))
 
 returns-3 : tie.Need-returns-3
-returns-3 c = buffer-81 _ _ _ (omega arith) (search needs) (omega arith) (search needs) (c .if5 .taken)
+returns-3 c = buffer-81 _ _ _ (omega arith) (search needs) (omega arith) (search needs) (λ e. omega arith)
 
 read-either-requires : tie.Need-read-either-requires
 read-either-requires c κs = search needs
@@ -49,10 +56,10 @@ whole c =
     got (a .n) 2 (a .text .now) (length (a .text .now)) 256 (replicate 256 0) (k .last .1 .1 .1 .0) _ _ (k .result) (k .ensures) (c .before .read .given .1)
 
 returns-5 : tie.Need-returns-5
-returns-5 c = left-82 _ _ _ (omega arith) (search needs) (omega arith) (search needs) (search needs) _ _ _ _ (whole (c .before)) (c .if6 .taken)
+returns-5 c = left-82 _ _ _ (omega arith) (search needs) (omega arith) (search needs) (search needs) _ _ _ _ (whole (c .before)) (λ e. omega arith)
 
 returns-6 : tie.Need-returns-6
-returns-6 c = text-83 _ _ _ (omega arith) (search needs) (omega arith) (search needs) (search needs) _ _ _ _ (whole (c .before .before)) (c .before .if6 .left) (c .if7 .taken)
+returns-6 c = text-83 _ _ _ (omega arith) (search needs) (omega arith) (search needs) (search needs) _ _ _ _ (whole (c .before .before)) (omega arith) (omega arith)
 
 sub-copy : tie.Need-sub-copy
 sub-copy c = omega (arith, whole (c .before .before) .begins)
@@ -74,7 +81,7 @@ same-length c = search needs
 
 returns-7 : tie.Need-returns-7
 returns-7 c =
-    text-codes _ _ _ (omega arith) (search needs) (omega arith) (search needs) (search needs) _ _ _ _ (whole (c .before .before .before .before .before .before .before .before)) (c .before .before .before .before .before .before .before .if6 .left) (c .before .before .before .before .before .before .if7 .left) (omega arith) _ _ (c .before .before .copy .ensures .0) (c .before .before .copy .ensures .1)
+    text-codes _ _ _ (omega arith) (search needs) (omega arith) (search needs) (search needs) _ _ _ _ (whole (c .before .before .before .before .before .before .before .before)) (omega arith) (omega arith) (omega arith) _ _ (c .before .before .copy .ensures .0) (c .before .before .copy .ensures .1)
 
 pub read-text-spec : {M : Type 1} → statement M
 read-text-spec =

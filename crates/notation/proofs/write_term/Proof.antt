@@ -14,7 +14,7 @@ returns : tie.Need-returns
 returns c = term-7 _ _ _ (⊎-elim (λ w. inl (w .taken)) (λ w. inr (ltb-true _ _ (w .1 .taken))) (c .if1 .came))
 
 returns-2 : tie.Need-returns-2
-returns-2 c = term-81 _ _ _ (omega arith) (search needs) (c .if3 .taken)
+returns-2 c = term-81 _ _ _ (omega arith) (search needs) (λ e. omega arith)
 
 read-term-requires : tie.Need-read-term-requires
 read-term-requires c κs = search needs

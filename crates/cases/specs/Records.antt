@@ -2,13 +2,9 @@
 use Prim.Native.Nat.{ℕ, zero, suc, _+_, _*_, _<_, _≤_}
 use mathlib.Core.List.{List}
 use lib.ListN.{length}
-use Rattle.model.specs.Bytes.{twoBytes}
+use Rattle.model.specs.Bytes.{fourBytes}
 use Rattle.cases.specs.declared.Run.{Run}
 use Rattle.cases.specs.declared.Run.the-variants.{Sizes, Broken}
-
--- a four-byte field, big-endian, as a number
-abbrev pub fourBytes : ℕ → List ℕ → ℕ
-fourBytes at l = twoBytes at l * 65536 + twoBytes (at + 2) l
 
 -- an eight-byte field
 abbrev pub eightBytes : ℕ → List ℕ → ℕ
@@ -18,14 +14,14 @@ eightBytes at l = fourBytes at l * 4294967296 + fourBytes (at + 4) l
 abbrev pub inputLength : ℕ → List ℕ → ℕ
 inputLength k bytes = fourBytes (12 + 4 * k) bytes
 
--- where input k starts: the inputs stand from byte 48 on, one after another
+-- where input k starts: the inputs stand from byte 52 on, one after another
 unfoldable pub inputStart : ℕ → List ℕ → ℕ
-inputStart zero bytes = 48
+inputStart zero bytes = 52
 inputStart (suc k) bytes = inputStart k bytes + inputLength k bytes
 
 -- the record has all its fields and inputs
 abbrev pub Whole : List ℕ → Type 0
-Whole bytes = (48 ≤ length bytes) × (inputStart 5 bytes ≤ length bytes)
+Whole bytes = (52 ≤ length bytes) × (inputStart 5 bytes ≤ length bytes)
 
 -- a run lies within the packed bytes, and what it stands for within the room
 abbrev pub Within : Run → ℕ → ℕ → Type 0

@@ -7,14 +7,17 @@ ghost use mathlib.Core.Bool.{true};
 ghost use mathlib.Core.List.{_++_};
 ghost use Prim.Native.Nat.{_+_, _-_, _≤_, _<_};
 ghost use lib.ListN.{length, replicate};
-ghost use Rattle.model.specs.Bytes.{field, twoBytes};
-ghost use Rattle.cases.specs.Records.{fourBytes, eightBytes, inputLength, inputStart, Whole, Within};
+ghost use Rattle.model.specs.Bytes.{field, twoBytes, fourBytes};
+ghost use Rattle.cases.specs.Records.{eightBytes, inputLength, inputStart, Whole, Within};
 
 // Kind 2 of an answer, refused, without its figure.
 const REFUSED: u32 = 131072;
 
 // What a buffer holds before a call of K or L.
 const BEFORE: u8 = 0xa5;
+
+// The day on which K and L are asked.
+const DAY: u32 = 20240131;
 
 // Numbers, big-endian.
 
@@ -140,13 +143,13 @@ fn plain() -> [u8; 512] {
 fn term_passes(term: &[u8]) -> bool {
     let ledger = plain();
     let mut table = [BEFORE; 1024];
-    if rights::rights_acts_for(&ledger, term, term, term) != 0 {
+    if rights::rights_acts_for(&ledger, term, term, term, DAY) != 0 {
         return false;
     }
-    if rights::rights_flows_to(&ledger, term, term, term) != 0 {
+    if rights::rights_flows_to(&ledger, term, term, term, DAY) != 0 {
         return false;
     }
-    rights::rights_extract(&ledger, term, &mut table) == 0
+    rights::rights_extract(&ledger, term, DAY, &mut table) == 0
 }
 
 // The acts-for question refuses the term, as p, as q and as the label.
@@ -154,13 +157,13 @@ fn acts_for_refuses(term: &[u8], refusal: u8) -> bool {
     let ledger = plain();
     let good = [0x21u8];
     let number = REFUSED + refusal as u32;
-    if rights::rights_acts_for(&ledger, term, &good, &good) != number + 20 {
+    if rights::rights_acts_for(&ledger, term, &good, &good, DAY) != number + 20 {
         return false;
     }
-    if rights::rights_acts_for(&ledger, &good, term, &good) != number + 30 {
+    if rights::rights_acts_for(&ledger, &good, term, &good, DAY) != number + 30 {
         return false;
     }
-    rights::rights_acts_for(&ledger, &good, &good, term) == number + 40
+    rights::rights_acts_for(&ledger, &good, &good, term, DAY) == number + 40
 }
 
 // The flows-to question likewise.
@@ -168,13 +171,13 @@ fn flows_to_refuses(term: &[u8], refusal: u8) -> bool {
     let ledger = plain();
     let good = [0x21u8];
     let number = REFUSED + refusal as u32;
-    if rights::rights_flows_to(&ledger, term, &good, &good) != number + 20 {
+    if rights::rights_flows_to(&ledger, term, &good, &good, DAY) != number + 20 {
         return false;
     }
-    if rights::rights_flows_to(&ledger, &good, term, &good) != number + 30 {
+    if rights::rights_flows_to(&ledger, &good, term, &good, DAY) != number + 30 {
         return false;
     }
-    rights::rights_flows_to(&ledger, &good, &good, term) == number + 40
+    rights::rights_flows_to(&ledger, &good, &good, term, DAY) == number + 40
 }
 
 // A short form of the term, an extract and a derivation under it are refused, and no buffer changes.
@@ -186,10 +189,10 @@ fn others_refuse(term: &[u8], refusal: u8) -> bool {
     if rights::rights_short_form(2, term, &mut buffer) != number {
         return false;
     }
-    if rights::rights_extract(&ledger, term, &mut table) != number + 40 {
+    if rights::rights_extract(&ledger, term, DAY, &mut table) != number + 40 {
         return false;
     }
-    if rights::rights_check_derivation(term, &ledger, term) != number + 40 {
+    if rights::rights_check_derivation(term, &ledger, term, DAY) != number + 40 {
         return false;
     }
     if is_filled(&buffer, BEFORE) {
@@ -215,16 +218,16 @@ fn length_refused(ledger: &[u8]) -> bool {
     let good = [0x21u8];
     let number = REFUSED + 10;
     let mut table = [BEFORE; 1024];
-    if rights::rights_acts_for(ledger, &good, &good, &good) != number {
+    if rights::rights_acts_for(ledger, &good, &good, &good, DAY) != number {
         return false;
     }
-    if rights::rights_flows_to(ledger, &good, &good, &good) != number {
+    if rights::rights_flows_to(ledger, &good, &good, &good, DAY) != number {
         return false;
     }
-    if rights::rights_extract(ledger, &good, &mut table) != number {
+    if rights::rights_extract(ledger, &good, DAY, &mut table) != number {
         return false;
     }
-    if rights::rights_check_derivation(&good, ledger, &good) != number {
+    if rights::rights_check_derivation(&good, ledger, &good, DAY) != number {
         return false;
     }
     is_filled(&table, BEFORE)
@@ -320,7 +323,7 @@ fn unpack(packed: &[u8], to: &mut [u8]) -> usize
 
 // The length of input k: 0 the ledger, 1 p (of a short form and of writing, the term; of reading, the text), 2 q, 3 the label, 4 the derivation.
 fn input_length(unpacked: &[u8], k: usize) -> u32
-    requires { ⌜ (48 ≤ length (now unpacked)) × (k < 5) ⌝ }
+    requires { ⌜ (52 ≤ length (now unpacked)) × (k < 5) ⌝ }
     ensures { λ r. ⌜ r ≡ inputLength k (now (unpacked .entry)) ⌝ }
 {
     four_bytes(unpacked, 12 + 4 * k)
@@ -328,10 +331,10 @@ fn input_length(unpacked: &[u8], k: usize) -> u32
 
 // Where input k starts. What the buffer is expected to start with stands behind input 4.
 fn input_start(unpacked: &[u8], k: usize) -> usize
-    requires { ⌜ (48 ≤ length (now unpacked)) × (k ≤ 5) ⌝ }
+    requires { ⌜ (52 ≤ length (now unpacked)) × (k ≤ 5) ⌝ }
     ensures { λ r. ⌜ r ≡ inputStart k (now (unpacked .entry)) ⌝ }
 {
-    let mut at: usize = 48;
+    let mut at: usize = 52;
     let mut i: usize = 0;
     while i < k {
         at += input_length(unpacked, i) as usize;
@@ -359,14 +362,16 @@ fn call(unpacked: &[u8], buffer: &mut [u8]) -> u32
     let q = input(unpacked, 2);
     let label = input(unpacked, 3);
     let derivation = input(unpacked, 4);
+    let day = four_bytes(unpacked, 48);
     match four_bytes(unpacked, 0) {
-        0 => rights::rights_acts_for(ledger, p, q, label),
-        1 => rights::rights_flows_to(ledger, p, q, label),
-        2 => rights::rights_extract(ledger, label, buffer),
+        0 => rights::rights_acts_for(ledger, p, q, label, day),
+        1 => rights::rights_flows_to(ledger, p, q, label, day),
+        2 => rights::rights_extract(ledger, label, day, buffer),
         3 => rights::rights_short_form(eight_bytes(unpacked, 4), p, buffer),
         6 => trials::trials_read_text(eight_bytes(unpacked, 4), p, buffer),
         7 => trials::trials_write_term(eight_bytes(unpacked, 4), p, buffer),
-        _ => rights::rights_check_derivation(derivation, ledger, label),
+        8 => trials::trials_add_days(day, four_bytes(unpacked, 8)),
+        _ => rights::rights_check_derivation(derivation, ledger, label, day),
     }
 }
 
@@ -393,7 +398,8 @@ fn quote_agrees(unpacked: &[u8]) -> bool
     let ledger = input(unpacked, 0);
     let label = input(unpacked, 3);
     let derivation = input(unpacked, 4);
-    let quoted = derivations::quote(derivation, ledger, label, eight_bytes(unpacked, 4));
+    let day = four_bytes(unpacked, 48);
+    let quoted = derivations::quote(derivation, ledger, label, day, eight_bytes(unpacked, 4));
     let start = four_bytes(unpacked, 40) as usize;
     let end = start + four_bytes(unpacked, 44) as usize;
     if ledger.len() < end {
@@ -404,7 +410,7 @@ fn quote_agrees(unpacked: &[u8]) -> bool
 
 // The record is whole, and the engine's result is the expected one.
 fn agrees(unpacked: &[u8], space: &mut [u8]) -> bool {
-    if unpacked.len() < 48 {
+    if unpacked.len() < 52 {
         return false;
     }
     let start = input_start(unpacked, 5);
@@ -419,7 +425,7 @@ fn agrees(unpacked: &[u8], space: &mut [u8]) -> bool {
         }
         return quote_agrees(unpacked);
     }
-    if 7 < operation {
+    if 8 < operation {
         return false;
     }
     if expected.len() != four_bytes(unpacked, 44) as usize {

@@ -91,6 +91,6 @@ pub fn block_check(block: &[u8]) -> bool
         return false;
     }
     let sum = weight(block);
-    let check = fields::two_bytes(block, 510);
+    let check = fields::two_bytes(block, 510) as u32;
     check == sum % 65521
 }

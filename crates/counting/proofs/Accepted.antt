@@ -30,16 +30,16 @@ module _ (bytes : List ℕ) (n grants : ℕ) (l : Ledger) (h : LedgerOf bytes n 
   pub grants-few : grants ≤ 64
   grants-few = omega (arith, h .count, stands .count-most)
 
-  module _ (L : Term) (label : List ℕ) (e : readTerm n label ≡ accepted L) where
-    counts-in : (k : ℕ) → countsIn bytes n grants label k ≡ ofGrant (countsUnder (under n L)) (l .grants) k
+  module _ (L : Term) (label : List ℕ) (day : ℕ) (e : readTerm n label ≡ accepted L) where
+    counts-in : (k : ℕ) → countsIn bytes n grants label day k ≡ ofGrant (countsUnder (under n L day)) (l .grants) k
     counts-in k = elim (decLt k grants) [
       | yes b ↦
           rw (lt-ltb k grants b, job-is n names-few, term-in n label L e, grant-in bytes l k noGrant (h .is) (omega (arith, h .count)))
-          (sym (ofGrant-getD (countsUnder (under n L)) (l .grants) k noGrant (omega (arith, h .count))))
-      | no b ↦ rw (le-ltb k grants (omega arith)) (sym (ofGrant-past (countsUnder (under n L)) (l .grants) k (omega (arith, h .count))))
+          (sym (ofGrant-getD (countsUnder (under n L day)) (l .grants) k noGrant (omega (arith, h .count))))
+      | no b ↦ rw (le-ltb k grants (omega arith)) (sym (ofGrant-past (countsUnder (under n L day)) (l .grants) k (omega (arith, h .count))))
     ]
 
     -- bit k is set exactly if grant k counts
-    pub counted-in : countedIn bytes n grants label ≡ grantBits (countsUnder (under n L)) (l .grants)
+    pub counted-in : countedIn bytes n grants label day ≡ grantBits (countsUnder (under n L day)) (l .grants)
     unfolding countedIn
-    counted-in = rw (le-ltb 64 grants grants-few) (packed-cong (countsIn bytes n grants label) (ofGrant (countsUnder (under n L)) (l .grants)) 0 64 (λ k _ _. counts-in k))
+    counted-in = rw (le-ltb 64 grants grants-few) (packed-cong (countsIn bytes n grants label day) (ofGrant (countsUnder (under n L day)) (l .grants)) 0 64 (λ k _ _. counts-in k))

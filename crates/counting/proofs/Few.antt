@@ -15,7 +15,7 @@ use borrow.Author.Tests.{lt-ltb, le-ltb}
 use Rattle.model.specs.Sides.{Side, confidentiality, integrity}
 use Rattle.model.specs.Coalitions.{member, every, mark}
 use Rattle.model.specs.Terms.{Term, name, top, bottom, conj, disj, project, NamesBelow, held}
-use Rattle.model.specs.Grants.{Grant, marksOf, voice, under, countsUnder}
+use Rattle.model.specs.Grants.{Grant, marksOf, voice, heard}
 use Rattle.model.proofs.Truth.{bool-ext}
 use Rattle.model.proofs.Search.{every-elim, every-intro}
 use Rattle.model.proofs.Packed.{member-zero, member-suc}
@@ -25,8 +25,8 @@ use Rattle.words.proofs.AnyBytes.{names-taken}
 use Rattle.words.proofs.Names.{rows-few-of}
 use Rattle.words.proofs.Searches.{clear-all}
 use Rattle.ledgers.specs.Places.{qPlace, labelPlace}
-use Rattle.counting.specs.Counted.{grantIn, barsCounting, barsAt, countsAt, NamesAt, NeededOf, ClearedTo}
-use Rattle.counting.proofs.Bars.{counts-bars}
+use Rattle.counting.specs.Counted.{grantIn, barsCounting, barsAt, heardAt, NamesAt, NeededOf, ClearedTo}
+use Rattle.counting.proofs.Bars.{heard-bars}
 
 -- the m + 1 low digits
 digits : (c m : ℕ) → c % 2 ^ suc m ≡ (c / 2 % 2 ^ m) * 2 + c % 2
@@ -69,14 +69,14 @@ every-few f m n h same =
     (λ e. every-intro f (2 ^ n) (λ c _. sym (same c) ∙ every-elim f (2 ^ m) e (c % 2 ^ m) (mod-lt c (pow-pos m))))
     (λ e. every-intro f (2 ^ m) (λ c l. every-elim f (2 ^ n) e c (omega (arith, pow-mono h))))
 
--- the grant counts asked of m names exactly if it does asked of n
-pub counts-few : (m n : ℕ) (L : Term) (g : Grant) → m ≤ n → NamesBelow m L → NamesBelow m (g .label) → NamesBelow m (g .q) → countsUnder (under m L) g ≡ countsUnder (under n L) g
-unfolding countsUnder barsCounting voice
-counts-few m n L g h a b d =
-    counts-bars m (held L) (marksOf g)
+-- the grant is heard asked of m names exactly if it is asked of n
+pub heard-few : (m n : ℕ) (L : Term) (g : Grant) → m ≤ n → NamesBelow m L → NamesBelow m (g .label) → NamesBelow m (g .q) → heard m (held L) (marksOf g) ≡ heard n (held L) (marksOf g)
+unfolding barsCounting voice
+heard-few m n L g h a b d =
+    heard-bars m (held L) (marksOf g)
     ∙ every-few (λ c. not (barsCounting (held L) (marksOf g) c)) m n h (λ c.
     rw (held-low m L confidentiality c a, held-low m L integrity c a, held-low m (g .label) confidentiality c b, held-low m (g .label) integrity c b, held-low m (g .q) confidentiality c d, held-low m (g .q) integrity c d))
-    ∙ sym (counts-bars n (held L) (marksOf g))
+    ∙ sym (heard-bars n (held L) (marksOf g))
 
 -- ---- the names that the code finds
 
@@ -112,7 +112,7 @@ needed-few ledger n k label a b r h L d q =
     let up′ : b ≤ r = q .most in
     record {
       few = omega arith;
-      alike = counts-few (jobOf r) (jobOf n) (termIn label) (grantIn ledger k) (omega arith)
+      alike = heard-few (jobOf r) (jobOf n) (termIn label) (grantIn ledger k) (omega arith)
           (names-more a (jobOf r) _ (λ i l m. omega arith) (L .below)) (names-more b (jobOf r) _ (λ i l m. omega arith) (d .below)) (names-more r (jobOf r) _ (λ i l m. omega arith) (q .below));
     }
 
@@ -132,14 +132,13 @@ clear-fewer m n f g h clear c l = elim (decLt c (2 ^ m)) [
 
 module _ (ledger : List ℕ) (k : ℕ) (label : List ℕ) where
   -- no coalition of the job bars the grant
-  pub counts-clear : (n g : ℕ) → g ≡ rowCount n → ClearTo (jobOf n) (barsAt ledger label k) g → true ≡ countsAt ledger n label k
-  unfolding countsUnder
-  counts-clear n g e clear =
+  pub heard-clear : (n g : ℕ) → g ≡ rowCount n → ClearTo (jobOf n) (barsAt ledger label k) g → true ≡ heardAt ledger n label k
+  heard-clear n g e clear =
       let all : g ≡ rowCount (jobOf n) = e ∙ sym (rows-few-of n) in
-      clear-all (jobOf n) (barsAt ledger label k) (omega arith) (subst (ClearTo (jobOf n) (barsAt ledger label k)) all clear) ∙ sym (counts-bars (jobOf n) (held (termIn label)) (marksOf (grantIn ledger k)))
+      clear-all (jobOf n) (barsAt ledger label k) (omega arith) (subst (ClearTo (jobOf n) (barsAt ledger label k)) all clear) ∙ sym (heard-bars (jobOf n) (held (termIn label)) (marksOf (grantIn ledger k)))
 
   -- by the first row, and the others of the names that are needed
-  pub counts-rest : (n m rows : ℕ) (r : Bool) → rows ≡ rowCount m → ClearTo (jobOf n) (barsAt ledger label k) 1 → NeededOf ledger n k label m → ClearedTo ledger m k label 1 rows r → r ≡ countsAt ledger n label k
-  counts-rest n m rows false e first needed rest = sym (rest .barred refl) ∙ needed .alike
-  counts-rest n m rows true e first needed rest =
-      counts-clear m rows e (rest .clear refl (clear-fewer (jobOf m) (jobOf n) (barsAt ledger label k) 1 (omega (arith, needed .few)) first)) ∙ needed .alike
+  pub heard-rest : (n m rows : ℕ) (r : Bool) → rows ≡ rowCount m → ClearTo (jobOf n) (barsAt ledger label k) 1 → NeededOf ledger n k label m → ClearedTo ledger m k label 1 rows r → r ≡ heardAt ledger n label k
+  heard-rest n m rows false e first needed rest = sym (rest .barred refl) ∙ needed .alike
+  heard-rest n m rows true e first needed rest =
+      heard-clear m rows e (rest .clear refl (clear-fewer (jobOf m) (jobOf n) (barsAt ledger label k) 1 (omega (arith, needed .few)) first)) ∙ needed .alike

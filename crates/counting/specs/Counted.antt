@@ -1,26 +1,30 @@
--- Which grants count, on any bytes (document 01, "Grants that count"). Assumes nothing: these are definitions.
+-- Which grants count, on any bytes (document 01, "Grants that count"; document 02, K2). Assumes nothing: these are definitions.
 use mathlib.Core.Path.{_≡_}
 use mathlib.Core.Bool.{Bool, true, false, cond, _&&_, _||_}
 use mathlib.Core.List.{List}
-use Prim.Native.Nat.{ℕ, _-_, _^_, _≤_, _<_}
+use Prim.Native.Nat.{ℕ, _+_, _-_, _^_, _≤_, _<_}
 use lib.Dec.{ltb}
 use lib.ListN.{drop}
 use Rattle.model.specs.Sides.{confidentiality, integrity}
+use Rattle.model.specs.Bytes.{fourBytes}
 use Rattle.model.specs.Coalitions.{member, Marks, packed}
 use Rattle.model.specs.Terms.{NamesBelow, held}
-use Rattle.model.specs.Grants.{Grant, GrantMarks, marksOf, voice, under, countsUnder}
+use Rattle.model.specs.Dates.{inDays}
+use Rattle.model.specs.Grants.{Grant, GrantMarks, marksOf, voice, heard, under, countsUnder}
 use Rattle.words.specs.AnyBytes.{termIn}
 use Rattle.words.specs.FourWords.{lacks}
 use Rattle.words.specs.Evaluation.{jobOf, ClearTo}
-use Rattle.ledgers.specs.Places.{pPlace, qPlace, labelPlace}
+use Rattle.ledgers.specs.Places.{pPlace, qPlace, labelPlace, daysPlace}
 use Rattle.counting.specs.declared.Known.{Known}
 
--- the grant whose terms stand in any bytes where those of grant k of a ledger do
+-- the grant whose terms and days stand in any bytes where those of grant k of a ledger do
 abbrev pub grantIn : List ℕ → ℕ → Grant
 grantIn ledger k = record {
   p = termIn (drop (pPlace k) ledger);
   q = termIn (drop (qPlace k) ledger);
   label = termIn (drop (labelPlace k) ledger);
+  first = fourBytes (daysPlace k) ledger;
+  last = fourBytes (daysPlace k + 4) ledger;
 }
 
 -- coalition c shows that the grant is not visible under L, or not spoken
@@ -33,17 +37,25 @@ barsCounting L g c =
 abbrev pub barsAt : List ℕ → List ℕ → ℕ → ℕ → Bool
 barsAt ledger label k = barsCounting (held (termIn label)) (marksOf (grantIn ledger k))
 
--- grant k counts under the label
-abbrev pub countsAt : List ℕ → ℕ → List ℕ → ℕ → Bool
-countsAt ledger n label k = countsUnder (under (jobOf n) (termIn label)) (grantIn ledger k)
+-- grant k is visible under the label, and spoken
+abbrev pub heardAt : List ℕ → ℕ → List ℕ → ℕ → Bool
+heardAt ledger n label k = heard (jobOf n) (held (termIn label)) (marksOf (grantIn ledger k))
 
--- there is a grant k, and it counts under the label
-abbrev pub countsIn : List ℕ → ℕ → ℕ → List ℕ → ℕ → Bool
-countsIn ledger n grants label k = ltb k grants && countsAt ledger n label k
+-- the day is within the days of grant k
+abbrev pub onDay : List ℕ → ℕ → ℕ → Bool
+onDay ledger day k = inDays (grantIn ledger k .first) (grantIn ledger k .last) day
+
+-- grant k counts under the label, on the day
+abbrev pub countsAt : List ℕ → ℕ → List ℕ → ℕ → ℕ → Bool
+countsAt ledger n label day k = countsUnder (under (jobOf n) (termIn label) day) (grantIn ledger k)
+
+-- there is a grant k, and it counts
+abbrev pub countsIn : List ℕ → ℕ → ℕ → List ℕ → ℕ → ℕ → Bool
+countsIn ledger n grants label day k = ltb k grants && countsAt ledger n label day k
 
 -- bit k is set exactly if grant k counts; no ledger has more grants than 64
-unfoldable pub countedIn : List ℕ → ℕ → ℕ → List ℕ → ℕ
-countedIn ledger n grants label = cond (ltb 64 grants) 0 (packed (countsIn ledger n grants label) 0 64)
+unfoldable pub countedIn : List ℕ → ℕ → ℕ → List ℕ → ℕ → ℕ
+countedIn ledger n grants label day = cond (ltb 64 grants) 0 (packed (countsIn ledger n grants label day) 0 64)
 
 -- nothing is known of any grant
 abbrev pub nothingKnown : Known
@@ -65,12 +77,12 @@ pub record NamesAt (bytes : List ℕ) (at least r : ℕ) : Type 0 where
   pub most : least ≤ r
   pub below : NamesBelow r (termIn (drop at bytes))
 
--- Asked of the coalitions of r names, no more than n, grant k counts under the label exactly if it does asked of those of n.
+-- Asked of the coalitions of r names, no more than n, grant k is heard under the label exactly if it is asked of those of n.
 pub record NeededOf (ledger : List ℕ) (n k : ℕ) (label : List ℕ) (r : ℕ) : Type 0 where
   pub few : r ≤ n
-  pub alike : countsAt ledger r label k ≡ countsAt ledger n label k
+  pub alike : heardAt ledger r label k ≡ heardAt ledger n label k
 
--- Where r is true no coalition of n names in the rows from one to another bars grant k, and where it is false one does, so that the grant doesn't count.
+-- Where r is true no coalition of n names in the rows from one to another bars grant k, and where it is false one does, so that the grant is not heard.
 pub record ClearedTo (ledger : List ℕ) (n k : ℕ) (label : List ℕ) (from to : ℕ) (r : Bool) : Type 0 where
   pub clear : r ≡ true → ClearTo (jobOf n) (barsAt ledger label k) from → ClearTo (jobOf n) (barsAt ledger label k) to
-  pub barred : r ≡ false → countsAt ledger n label k ≡ false
+  pub barred : r ≡ false → heardAt ledger n label k ≡ false

@@ -1,10 +1,10 @@
-// Which grants count under a label (document 01, "Grants that count").
+// Which grants count under a label, on a day (document 01, "Grants that count"; document 02, K2).
 use words::Row;
 ghost use mathlib.Core.Path.{_≡_};
 ghost use Prim.Native.Nat.{_≤_, _<_};
 ghost use Rattle.model.specs.Coalitions.{member, mark};
 ghost use Rattle.words.specs.FourWords.{RowAt};
-ghost use Rattle.counting.specs.Counted.{barsAt, countsAt, countedIn, nothingKnown, judgedAt, NamesAt, NeededOf, ClearedTo};
+ghost use Rattle.counting.specs.Counted.{barsAt, heardAt, onDay, countsAt, countedIn, nothingKnown, judgedAt, NamesAt, NeededOf, ClearedTo};
 
 // Those of row g that bar grant k from counting under the label: they see the label and not the grant's, or change the grant's and not the label, or
 // change it and don't hold the voice of q. Where none changes the grant's label there is no need of q.
@@ -99,9 +99,9 @@ fn rows_clear(ledger: &[u8], n: u64, k: usize, label: &[u8], from: u64, to: u64)
     true
 }
 
-// Grant k counts under the label: it is visible and spoken. The first row tells most grants that don't.
-pub fn counts(ledger: &[u8], n: u64, k: usize, label: &[u8]) -> bool
-    ensures { λ r. ⌜ r ≡ countsAt (now (ledger .entry)) n (now (label .entry)) k ⌝ }
+// Grant k is visible under the label, and spoken. The first row tells most grants that are not.
+fn heard(ledger: &[u8], n: u64, k: usize, label: &[u8]) -> bool
+    ensures { λ r. ⌜ r ≡ heardAt (now (ledger .entry)) n (now (label .entry)) k ⌝ }
 {
     let first = rows_clear(ledger, n, k, label, 0, 1);
     if !first {
@@ -114,9 +114,30 @@ pub fn counts(ledger: &[u8], n: u64, k: usize, label: &[u8]) -> bool
     rows_clear(ledger, names, k, label, 1, words::row_count(names))
 }
 
-// Bit k is set exactly if grant k counts under the label. No ledger has more grants than 64.
-pub fn counted(ledger: &[u8], n: u64, grants: usize, label: &[u8]) -> u64
-    ensures { λ r. ⌜ r ≡ countedIn (now (ledger .entry)) n grants (now (label .entry)) ⌝ }
+// The day is within the days of grant k.
+fn on_day(ledger: &[u8], k: usize, day: u32) -> bool
+    ensures { λ r. ⌜ r ≡ onDay (now (ledger .entry)) day k ⌝ }
+{
+    let at = ledgers::days_place(k);
+    let first = fields::four_bytes(ledger, at);
+    let last = fields::four_bytes(ledger, at + 4);
+    dates::in_days(first, last, day)
+}
+
+// Grant k counts under the label on the day. Its days are looked at first, which costs least.
+pub fn counts(ledger: &[u8], n: u64, k: usize, label: &[u8], day: u32) -> bool
+    ensures { λ r. ⌜ r ≡ countsAt (now (ledger .entry)) n (now (label .entry)) day k ⌝ }
+{
+    let now = on_day(ledger, k, day);
+    if !now {
+        return false;
+    }
+    heard(ledger, n, k, label)
+}
+
+// Bit k is set exactly if grant k counts. No ledger has more grants than 64.
+pub fn counted(ledger: &[u8], n: u64, grants: usize, label: &[u8], day: u32) -> u64
+    ensures { λ r. ⌜ r ≡ countedIn (now (ledger .entry)) n grants (now (label .entry)) day ⌝ }
 {
     if 64 < grants {
         return 0;
@@ -125,7 +146,7 @@ pub fn counted(ledger: &[u8], n: u64, grants: usize, label: &[u8]) -> u64
     let mut k = grants;
     while 0 < k {
         k -= 1;
-        let counts = counts(ledger, n, k, label);
+        let counts = counts(ledger, n, k, label, day);
         counted = (counted << 1) | (counts as u64);
     }
     counted
@@ -158,8 +179,8 @@ pub fn may_count(known: Known, k: usize) -> bool
 }
 
 // What is known once grant k, if it may count, is judged. It is judged once.
-pub fn judge(ledger: &[u8], n: u64, k: usize, label: &[u8], known: Known) -> Known
-    ensures { λ r. ⌜ r ≡ judgedAt (countsAt (now (ledger .entry)) n (now (label .entry)) k) k known ⌝ }
+pub fn judge(ledger: &[u8], n: u64, k: usize, label: &[u8], day: u32, known: Known) -> Known
+    ensures { λ r. ⌜ r ≡ judgedAt (countsAt (now (ledger .entry)) n (now (label .entry)) day k) k known ⌝ }
 {
     let may = may_count(known, k);
     if !may {
@@ -170,7 +191,7 @@ pub fn judge(ledger: &[u8], n: u64, k: usize, label: &[u8], known: Known) -> Kno
     }
     let bit: u64 = 1 << k;
     let unjudged = known.unjudged - bit;
-    if counts(ledger, n, k, label) {
+    if counts(ledger, n, k, label, day) {
         return Known {
             unjudged,
             possible: known.possible,

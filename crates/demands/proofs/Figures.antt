@@ -2,7 +2,7 @@
 use mathlib.Core.Path.{_≡_, refl}
 use mathlib.Core.Logic.{inl, inr}
 use Prim.Native.Nat.{ℕ, zero, suc, _+_, _%_, _≤_, _<_}
-use mathlib.Core.Bool.{Bool, true, not, _&&_, _||_}
+use mathlib.Core.Bool.{Bool, true, false, not, _&&_, _||_}
 use mathlib.Core.List.{List, [], _∷_, reverse}
 use native.Mathlib.Omega.{arith}
 use lib.Dec.{eqb, leb, ltb}
@@ -11,14 +11,15 @@ use lib.Pow.{pow-mono}
 use borrow.Author.Tests.{leb-true}
 use Rattle.model.specs.Sides.{confidentiality, integrity}
 use Rattle.model.specs.Bytes.{byte}
-use Rattle.model.specs.Readings.{Reading, accepted, refused, from, isAccepted}
+use Rattle.model.specs.Readings.{Reading, accepted, refused, andThen, from, require, isAccepted}
 use Rattle.model.specs.Coalitions.{Marks}
 use Rattle.model.specs.Terms.{Term, jobSize, readTerm, held}
+use Rattle.model.specs.Dates.{realDate}
 use Rattle.model.specs.Grants.{Grant, readUnder, countsUnder, ofGrant}
 use Rattle.model.specs.Ledgers.{readBook, Ledger, readLedger}
 use Rattle.model.specs.Answers.{Answer, Yes, No, Written, Refused, RefusedAt, number, writtenFront}
 use Rattle.model.specs.Questions.{answerTo, across, soundUnder, actsForUnder, flowsToUnder, ask, actsFor, flowsTo}
-use Rattle.model.specs.Extracts.{extractOf, written, extract}
+use Rattle.model.specs.Extracts.{table, extractOf, written, extract}
 use Rattle.model.specs.ShortForms.{shortFormOf, shorten}
 use Rattle.model.specs.Notation.{Back, ended, noText, readBack, wholeText, textLength, textCodes, termText, readText, writeTerm}
 use Rattle.model.specs.Derivations.{stepAt, Rule, ruleOf, usesOf, stepForm, readLeft, readRight, before, meets, checkStep, onStep, checkSteps, derivationLength, stepCount, checkDerivation}
@@ -27,7 +28,7 @@ use Rattle.model.proofs.Judge.{judge-no, judge-case}
 use Rattle.model.proofs.Accepted.{names-range}
 use Rattle.model.proofs.Notation.{text-few, term-few}
 use Rattle.sperner.proofs.Forms.{written-few}
-use Rattle.demands.specs.Numbers.{Range, _to_, OneOf, questionRefusals, extractRefusals, shortFormRefusals, textRefusals, termRefusals, derivationRefusals, stepRefusals, AnswersQuestion, AnswersExtract, AnswersFront, AnswersDerivation, QuestionsAnswered, ExtractsAnswered, ShortFormsAnswered, NotationAnswered, DerivationsAnswered, ComesBack, AnswersComeBack}
+use Rattle.demands.specs.Numbers.{Range, _to_, OneOf, OnDay, questionRefusals, extractRefusals, shortFormRefusals, textRefusals, termRefusals, derivationRefusals, stepRefusals, AnswersQuestion, AnswersExtract, AnswersFront, AnswersDerivation, QuestionsAnswered, ExtractsAnswered, ShortFormsAnswered, NotationAnswered, DerivationsAnswered, ComesBack, AnswersComeBack}
 use Rattle.demands.proofs.Asking.{judged}
 use Rattle.demands.proofs.Refusing.{Only, only-require, only-then, only-term, only-part, only-ledger, given-case, only-under, only-book}
 
@@ -48,29 +49,37 @@ comes-back (Written k) h = (omega arith, omega arith)
 comes-back (Refused r) h = (omega arith, omega arith, omega arith)
 comes-back (RefusedAt k r) h = (omega arith, omega arith, omega arith)
 
--- refusals of ranges that end below 256 are small
-abbrev EndBelow : List Range → Type 0
-EndBelow [] = Unit {0}
-EndBelow (a to b ∷ l) = (b < 256) × EndBelow l
+-- refusals of ranges that end below a number are below it
+abbrev EndBelow : ℕ → List Range → Type 0
+EndBelow most [] = Unit {0}
+EndBelow most (a to b ∷ l) = (b < most) × EndBelow most l
 
-one-below : (l : List Range) (r : ℕ) → EndBelow l → OneOf l r → r < 256
-one-below [] r e h = absurd h
-one-below (a to b ∷ l) r e (inl h) = omega arith
-one-below (a to b ∷ l) r e (inr h) = one-below l r (e .1) h
+one-below : (most : ℕ) (l : List Range) (r : ℕ) → EndBelow most l → OneOf l r → r < most
+one-below most [] r e h = absurd h
+one-below most (a to b ∷ l) r e (inl h) = omega arith
+one-below most (a to b ∷ l) r e (inr h) = one-below most l r (e .1) h
+
+day-below : (l : List Range) (day r : ℕ) → EndBelow 256 l → OnDay l day r → r < 256
+day-below l day r e (inl h) = one-below 256 l r e (h .1)
+day-below l day r e (inr h) = omega (arith, h .1)
+
+-- where they end below 86, that is given only on a day that is not real
+day-86 : (l : List Range) (day : ℕ) → EndBelow 86 l → OnDay l day 86 → realDate day ≡ false
+day-86 l day e (inl h) = absurd (omega (arith, one-below 86 l 86 e (h .1)))
+day-86 l day e (inr h) = h .0
 
 -- ---- questions
-question-answered : (F G : Term → Term → Marks) (ledger p q label : List ℕ) → AnswersQuestion ledger (ask (judged F G) ledger p q label)
+question-answered : (F G : Term → Term → Marks) (ledger p q label : List ℕ) (day : ℕ) → AnswersQuestion ledger day (ask (judged F G) ledger p q label day)
 unfolding ask
-question-answered F G ledger p q label =
-    given-case (AnswersQuestion ledger) (readLedger ledger) _ (only-ledger R ledger (λ r a b. inl (a, b)))
-    (λ l e. given-case (AnswersQuestion ledger) (from 20 (readTerm (l .names) p)) _ (only-part R 20 (l .names) p (λ r a b. inr (inl (omega arith, omega arith))))
-    (λ tp _. given-case (AnswersQuestion ledger) (from 30 (readTerm (l .names) q)) _ (only-part R 30 (l .names) q (λ r a b. inr (inr (inl (omega arith, omega arith)))))
-    (λ tq _. given-case (AnswersQuestion ledger) (readUnder (l .names) label) _ (only-under R (l .names) label (λ r a b. inr (inr (inr (inl (omega arith, omega arith))))))
-    (λ u _. judge-case (λ v. AnswersQuestion ledger (answerTo v)) (l .names) (soundUnder l u) (F tp tq) (G tp tq) (λ _. tt)
-    (λ s c k. record { job = l; is = e; below = judge-no (l .names) (soundUnder l u) (F tp tq) (G tp tq) s c .0 k .below })))))
-  where
-    R : ℕ → Type 0
-    R = OneOf questionRefusals
+question-answered F G ledger p q label day =
+    cond-case (AnswersQuestion ledger day) (realDate day) _ _
+    (λ real. given-case (AnswersQuestion ledger day) (readLedger ledger) _ (only-ledger (OnDay questionRefusals day) (λ r a b. inl (real, inl (a, b))) (λ r a b. inl (real, inr (inl (a, b)))) ledger)
+    (λ l e. given-case (AnswersQuestion ledger day) (from 20 (readTerm (l .names) p)) _ (only-part (OnDay questionRefusals day) 20 (l .names) p (λ r a b. inl (real, inr (inr (inl (omega arith, omega arith))))))
+    (λ tp _. given-case (AnswersQuestion ledger day) (from 30 (readTerm (l .names) q)) _ (only-part (OnDay questionRefusals day) 30 (l .names) q (λ r a b. inl (real, inr (inr (inr (inl (omega arith, omega arith)))))))
+    (λ tq _. given-case (AnswersQuestion ledger day) (readUnder (l .names) label day) _ (only-under (OnDay questionRefusals day) (l .names) label day (λ r a b. inl (real, inr (inr (inr (inr (inl (omega arith, omega arith))))))))
+    (λ u _. judge-case (λ v. AnswersQuestion ledger day (answerTo v)) (l .names) (soundUnder l u) (F tp tq) (G tp tq) (λ _. tt)
+    (λ s c k. record { job = l; is = e; below = judge-no (l .names) (soundUnder l u) (F tp tq) (G tp tq) s c .0 k .below }))))))
+    (λ unreal. inr (unreal, refl))
 
 pub questions-answered : QuestionsAnswered
 unfolding actsFor actsForUnder flowsTo flowsToUnder
@@ -79,33 +88,37 @@ questions-answered = record {
   flows-to = question-answered (λ p q. across q p) (λ p q. across p q);
 }
 
-question-small : (ledger : List ℕ) (answer : Answer) → AnswersQuestion ledger answer → Small answer
-question-small ledger Yes h = tt
-question-small ledger (No s c) h = omega (arith, h .below, pow-mono (names-range ledger (h .job) (h .is) .1))
-question-small ledger (Written k) h = absurd h
-question-small ledger (Refused r) h = one-below questionRefusals r (omega arith) h
-question-small ledger (RefusedAt k r) h = absurd h
+question-small : (ledger : List ℕ) (day : ℕ) (answer : Answer) → AnswersQuestion ledger day answer → Small answer
+question-small ledger day Yes h = tt
+question-small ledger day (No s c) h = omega (arith, h .below, pow-mono (names-range ledger (h .job) (h .is) .1))
+question-small ledger day (Written k) h = absurd h
+question-small ledger day (Refused r) h = day-below questionRefusals day r (omega arith) h
+question-small ledger day (RefusedAt k r) h = absurd h
 
 -- ---- extracts
-written-answered : (x : Reading (List ℕ)) (buffer : List ℕ) → Only (OneOf extractRefusals) x → AnswersExtract (written x buffer .answer)
-written-answered (accepted bytes) buffer o = tt
-written-answered (refused r) buffer o = o
+written-answered : (day : ℕ) (x : Reading (List ℕ)) (buffer : List ℕ) → Only (OnDay extractRefusals day) x → AnswersExtract day (written x buffer .answer)
+written-answered day (accepted bytes) buffer o = tt
+written-answered day (refused r) buffer o = o
 
 pub extracts-answered : ExtractsAnswered
 unfolding extract extractOf
-extracts-answered ledger label buffer =
-    written-answered (extractOf ledger label (length buffer)) buffer
-    (only-require (OneOf extractRefusals) (eqb (length buffer) 1024) 51 _ (inl (omega arith, omega arith))
-    (only-then (OneOf extractRefusals) (readBook ledger label) _
-    (only-book (OneOf extractRefusals) ledger label (λ r a b. inr (inl (a, b))) (λ r a b. inr (inr (inl (omega arith, omega arith)))))
-    (λ b. tt)))
+extracts-answered ledger label day buffer = written-answered day (extractOf ledger label day (length buffer)) buffer (on (realDate day) refl)
+  where
+    on : (b : Bool) → realDate day ≡ b
+        → Only (OnDay extractRefusals day) (require b 86 (require (eqb (length buffer) 1024) 51 (andThen (readBook ledger label day) (λ b. accepted (table (b .ledger .names) (soundUnder (b .ledger) (b .asked)))))))
+    on true real =
+        only-require (OnDay extractRefusals day) (eqb (length buffer) 1024) 51 _ (inl (real, inl (omega arith, omega arith)))
+        (only-then (OnDay extractRefusals day) (readBook ledger label day) _
+        (only-book (OnDay extractRefusals day) ledger label day (λ r a b. inl (real, inr (inl (a, b)))) (λ r a b. inl (real, inr (inr (inl (a, b))))) (λ r a b. inl (real, inr (inr (inr (inl (omega arith, omega arith)))))))
+        (λ b. tt))
+    on false unreal = inr (unreal, refl)
 
-extract-small : (answer : Answer) → AnswersExtract answer → Small answer
-extract-small Yes h = tt
-extract-small (No s c) h = absurd h
-extract-small (Written k) h = absurd h
-extract-small (Refused r) h = one-below extractRefusals r (omega arith) h
-extract-small (RefusedAt k r) h = absurd h
+extract-small : (day : ℕ) (answer : Answer) → AnswersExtract day answer → Small answer
+extract-small day Yes h = tt
+extract-small day (No s c) h = absurd h
+extract-small day (Written k) h = absurd h
+extract-small day (Refused r) h = day-below extractRefusals day r (omega arith) h
+extract-small day (RefusedAt k r) h = absurd h
 
 -- ---- short forms, texts and terms
 module _ (most : ℕ) (refusals : List Range) where
@@ -114,11 +127,11 @@ module _ (most : ℕ) (refusals : List Range) where
   front-answered (accepted bytes) buffer o h = h (length bytes) refl
   front-answered (refused r) buffer o h = o
 
-  front-small : (answer : Answer) → most < 65536 → EndBelow refusals → AnswersFront most refusals answer → Small answer
+  front-small : (answer : Answer) → most < 65536 → EndBelow 256 refusals → AnswersFront most refusals answer → Small answer
   front-small Yes few e h = absurd h
   front-small (No s c) few e h = absurd h
   front-small (Written k) few e h = omega arith
-  front-small (Refused r) few e h = one-below refusals r e h
+  front-small (Refused r) few e h = one-below 256 refusals r e h
   front-small (RefusedAt k r) few e h = absurd h
 
 pub short-forms-answered : ShortFormsAnswered
@@ -169,45 +182,57 @@ step-only l f d k step r =
     (only-require (OneOf stepRefusals) (not (usesOf r .grant) || ofGrant f (l .grants) (byte 3 step)) 66 _ (inl (omega arith, omega arith))
     (only-require (OneOf stepRefusals) (meets l r step (stepAt d (byte 1 step)) (stepAt d (byte 2 step))) 67 (accepted tt) (inl (omega arith, omega arith)) tt))))))
 
-on-step-answered : (d : List ℕ) (k : ℕ) (x : Reading (Unit {0})) (next : Answer) → stepCount d ≤ 64 → k < stepCount d
-    → Only (OneOf stepRefusals) x → AnswersDerivation d next → AnswersDerivation d (onStep k x next)
-on-step-answered d k (accepted u) next few h o t = t
-on-step-answered d k (refused r) next few h o t = (few, h, o)
+on-step-answered : (d : List ℕ) (day k : ℕ) (x : Reading (Unit {0})) (next : Answer) → stepCount d ≤ 64 → k < stepCount d
+    → Only (OneOf stepRefusals) x → AnswersDerivation d day next → AnswersDerivation d day (onStep k x next)
+on-step-answered d day k (accepted u) next few h o t = t
+on-step-answered d day k (refused r) next few h o t = (few, h, o)
 
-steps-answered : (l : Ledger) (f : Grant → Bool) (d : List ℕ) (k count : ℕ) → stepCount d ≤ 64 → k + count ≤ stepCount d → AnswersDerivation d (checkSteps l f d k count)
+steps-answered : (l : Ledger) (f : Grant → Bool) (d : List ℕ) (day k count : ℕ) → stepCount d ≤ 64 → k + count ≤ stepCount d → AnswersDerivation d day (checkSteps l f d k count)
 unfolding checkSteps
-steps-answered l f d k zero few h = tt
-steps-answered l f d k (suc count) few h =
-    on-step-answered d k (checkStep l f d k (stepAt d k) (ruleOf (byte 0 (stepAt d k)))) (checkSteps l f d (suc k) count) few (omega arith)
+steps-answered l f d day k zero few h = tt
+steps-answered l f d day k (suc count) few h =
+    on-step-answered d day k (checkStep l f d k (stepAt d k) (ruleOf (byte 0 (stepAt d k)))) (checkSteps l f d (suc k) count) few (omega arith)
     (step-only l f d k (stepAt d k) (ruleOf (byte 0 (stepAt d k))))
-    (steps-answered l f d (suc k) count few (omega arith))
+    (steps-answered l f d day (suc k) count few (omega arith))
 
 pub derivations-answered : DerivationsAnswered
 unfolding checkDerivation
-derivations-answered d ledger label =
-    given-case (AnswersDerivation d) (readBook ledger label) _
-    (only-book (OneOf derivationRefusals) ledger label (λ r a b. inl (a, b)) (λ r a b. inr (inl (omega arith, omega arith))))
-    (λ b _. cond-case (AnswersDerivation d) (derivationLength (length d)) (checkSteps (b .ledger) (countsUnder (b .asked)) d 0 (stepCount d)) (Refused 60)
-    (λ e. steps-answered (b .ledger) (countsUnder (b .asked)) d 0 (stepCount d) (few e) (omega arith))
-    (λ _. inr (inr (inl (omega arith, omega arith)))))
+derivations-answered d ledger label day =
+    cond-case (AnswersDerivation d day) (realDate day) _ _
+    (λ real. given-case (AnswersDerivation d day) (readBook ledger label day) _
+    (only-book (OnDay derivationRefusals day) ledger label day (λ r a b. inl (real, inl (a, b))) (λ r a b. inl (real, inr (inl (a, b)))) (λ r a b. inl (real, inr (inr (inl (omega arith, omega arith))))))
+    (λ b _. cond-case (AnswersDerivation d day) (derivationLength (length d)) (checkSteps (b .ledger) (countsUnder (b .asked)) d 0 (stepCount d)) (Refused 60)
+    (λ e. steps-answered (b .ledger) (countsUnder (b .asked)) d day 0 (stepCount d) (few e) (omega arith))
+    (λ _. inl (real, inr (inr (inr (inl (omega arith, omega arith))))))))
+    (λ unreal. inr (unreal, refl))
   where
     few : derivationLength (length d) ≡ true → stepCount d ≤ 64
     few e = omega (arith, leb-true (length d) 8704 (and-right (leb 136 (length d)) _ (and-right (eqb (length d % 136) 0) _ e)))
 
-derivation-small : (d : List ℕ) (answer : Answer) → AnswersDerivation d answer → Small answer
-derivation-small d Yes h = tt
-derivation-small d (No s c) h = absurd h
-derivation-small d (Written k) h = absurd h
-derivation-small d (Refused r) h = one-below derivationRefusals r (omega arith) h
-derivation-small d (RefusedAt k r) h = (omega arith, one-below stepRefusals r (omega arith) (h .2))
+derivation-small : (d : List ℕ) (day : ℕ) (answer : Answer) → AnswersDerivation d day answer → Small answer
+derivation-small d day Yes h = tt
+derivation-small d day (No s c) h = absurd h
+derivation-small d day (Written k) h = absurd h
+derivation-small d day (Refused r) h = day-below derivationRefusals day r (omega arith) h
+derivation-small d day (RefusedAt k r) h = (omega arith, one-below 256 stepRefusals r (omega arith) (h .2))
 
 pub answers-come-back : AnswersComeBack
 answers-come-back = record {
-  acts-for = λ ledger p q label. let a = actsFor ledger p q label in comes-back a (question-small ledger a (questions-answered .acts-for ledger p q label));
-  flows-to = λ ledger p q label. let a = flowsTo ledger p q label in comes-back a (question-small ledger a (questions-answered .flows-to ledger p q label));
-  extracts = λ ledger label buffer. let a = extract ledger label buffer .answer in comes-back a (extract-small a (extracts-answered ledger label buffer));
+  acts-for = λ ledger p q label day. let a = actsFor ledger p q label day in comes-back a (question-small ledger day a (questions-answered .acts-for ledger p q label day));
+  flows-to = λ ledger p q label day. let a = flowsTo ledger p q label day in comes-back a (question-small ledger day a (questions-answered .flows-to ledger p q label day));
+  extracts = λ ledger label day buffer. let a = extract ledger label day buffer .answer in comes-back a (extract-small day a (extracts-answered ledger label day buffer));
   short-forms = λ n term buffer. let a = shorten n term buffer .answer in comes-back a (front-small 3700 shortFormRefusals a (omega arith) (omega arith) (short-forms-answered n term buffer));
   texts = λ n text buffer. let a = readText n text buffer .answer in comes-back a (front-small 64 textRefusals a (omega arith) (omega arith) (notation-answered .texts n text buffer));
   terms = λ n term buffer. let a = writeTerm n term buffer .answer in comes-back a (front-small 192 termRefusals a (omega arith) (omega arith) (notation-answered .terms n term buffer));
-  derivations = λ d ledger label. let a = checkDerivation d ledger label in comes-back a (derivation-small d a (derivations-answered d ledger label));
+  derivations = λ d ledger label day. let a = checkDerivation d ledger label day in comes-back a (derivation-small d day a (derivations-answered d ledger label day));
 }
+
+-- 86 is given exactly on a day that is not real
+pub question-86 : (ledger : List ℕ) (day : ℕ) (answer : Answer) → AnswersQuestion ledger day answer → answer ≡ Refused 86 → realDate day ≡ false
+question-86 ledger day answer h e = day-86 questionRefusals day (omega arith) (rw e at h)
+
+pub extract-86 : (day : ℕ) (answer : Answer) → AnswersExtract day answer → answer ≡ Refused 86 → realDate day ≡ false
+extract-86 day answer h e = day-86 extractRefusals day (omega arith) (rw e at h)
+
+pub derivation-86 : (d : List ℕ) (day : ℕ) (answer : Answer) → AnswersDerivation d day answer → answer ≡ Refused 86 → realDate day ≡ false
+derivation-86 d day answer h e = day-86 derivationRefusals day (omega arith) (rw e at h)

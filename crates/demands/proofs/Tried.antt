@@ -9,13 +9,13 @@ use Rattle.model.specs.Sides.{Side, confidentiality, integrity}
 use Rattle.model.specs.Bytes.{zeros, pieces, joined}
 use Rattle.model.specs.Coalitions.{member, every, within, lowest, mark, packed}
 use Rattle.model.specs.Terms.{name, bottom, disj, project, codes, codeOf, readWithin, readTerm, held}
-use Rattle.model.specs.Grants.{countsUnder, visible, voice, spoken, counts, chosen, sound}
-use Rattle.model.specs.Ledgers.{readBook, weighted, checkOf, checked, grantBlocks, allChecked, headerForm, grantForm, readTerms, readGrant, readGrants, readLedger, withCheck, ledgerOf}
+use Rattle.model.specs.Dates.{dateOrNone, inOrder, inDays}
+use Rattle.model.specs.Grants.{countsUnder, visible, voice, spoken, heard, chosen, sound}
+use Rattle.model.specs.Ledgers.{readBook, weighted, checkOf, checked, grantBlocks, allChecked, headerForm, grantForm, readTerms, readDays, readGrant, readGrants, readLedger, withCheck, ledgerOf}
 use Rattle.model.specs.Questions.{refutes, judge, across, soundUnder, actsForUnder, flowsToUnder, ask, actsFor, flowsTo}
 use Rattle.model.specs.Extracts.{packedBytes, table, extractOf, extract}
-use Rattle.model.specs.Texts.{flat, term, rank, fewest}
-use Rattle.model.specs.Notation.{lastOf, readDeep, textCodes, termText}
-use Rattle.demands.specs.Cases.{plain, oneGrant, sideSpoken, sideLabelled, HeldEverywhere, WorkedCases, WrongTurns, NotationCases}
+use Rattle.model.specs.Texts.{term}
+use Rattle.demands.specs.Cases.{plain, oneGrant, sideSpoken, sideLabelled, HeldEverywhere, WorkedCases, WrongTurns}
 
 either-held : HeldEverywhere 2 (0x31 ∷ 0x40 ∷ 0x00 ∷ 0x41 ∷ 0x01 ∷ [])
 unfolding codeOf readWithin readTerm held
@@ -30,61 +30,30 @@ unfolding codeOf readWithin readTerm held
 weakest-held = record { term = bottom; is = refl; everywhere = λ s c. refl }
 
 pub worked-cases : WorkedCases
-unfolding plain oneGrant zeros pieces joined codes codeOf readWithin readTerm member held every within visible voice spoken counts countsUnder chosen sound weighted checkOf checked grantBlocks allChecked headerForm grantForm readTerms readGrant readGrants readLedger readBook lowest refutes judge across soundUnder actsForUnder flowsToUnder ask actsFor flowsTo mark packed packedBytes table extractOf extract
+unfolding plain oneGrant zeros pieces joined codes codeOf readWithin readTerm member held every within visible voice spoken heard inDays countsUnder chosen sound weighted checkOf checked grantBlocks allChecked headerForm grantForm readTerms dateOrNone inOrder readDays readGrant readGrants readLedger readBook lowest refutes judge across soundUnder actsForUnder flowsToUnder ask actsFor flowsTo mark packed packedBytes table extractOf extract
 worked-cases = record {
   A-either = either-held;
   A-weakest = weakest-held;
-  B = refl;
-  C = refl;
-  D-strongest = refl;
-  D-weakest = refl;
-  E = refl;
-  F = refl;
-  G = refl;
-  H-granted = λ buffer h. rw (eq-eqb (length buffer) 1024 h);
-  H-plain = λ buffer h. rw (eq-eqb (length buffer) 1024 h);
-  I = refl;
-  J = refl;
+  B = λ day r. rw r;
+  C = λ day r. rw r;
+  D-strongest = λ day r. rw r;
+  D-weakest = λ day r. rw r;
+  E = λ day r. rw r;
+  F = λ day r. rw r;
+  G = λ day r. rw r;
+  H-granted = λ day r buffer h. rw (r, eq-eqb (length buffer) 1024 h);
+  H-plain = λ day r buffer h. rw (r, eq-eqb (length buffer) 1024 h);
+  I = λ day r. rw r;
+  J = λ day r. rw r;
 }
 
 pub wrong-turns : WrongTurns
-unfolding plain sideSpoken sideLabelled zeros pieces joined codes codeOf readWithin readTerm member held every within visible voice spoken counts countsUnder chosen sound weighted checkOf checked grantBlocks allChecked headerForm grantForm readTerms readGrant readGrants readLedger readBook lowest refutes judge across soundUnder actsForUnder flowsToUnder ask actsFor flowsTo withCheck ledgerOf
+unfolding plain sideSpoken sideLabelled zeros pieces joined codes codeOf readWithin readTerm member held every within visible voice spoken heard inDays countsUnder chosen sound weighted checkOf checked grantBlocks allChecked headerForm grantForm readTerms dateOrNone inOrder readDays readGrant readGrants readLedger readBook lowest refutes judge across soundUnder actsForUnder flowsToUnder ask actsFor flowsTo withCheck ledgerOf
 wrong-turns = record {
-  full-lacks-strongest = refl;
-  flows-see-side = refl;
-  visible-see-side = refl;
-  invisible-see-side = refl;
-  voice-see-side = refl;
-  either-across = refl;
-}
-
-pub notation-cases : NotationCases
-unfolding codes codeOf readWithin readTerm flat term rank fewest lastOf readDeep textCodes termText
-notation-cases = record {
-  read-1 = refl;
-  read-2 = refl;
-  read-3 = refl;
-  read-4 = refl;
-  read-5 = refl;
-  read-6 = refl;
-  no-text-1 = refl;
-  no-text-2 = refl;
-  no-text-3 = refl;
-  no-text-4 = refl;
-  no-text-5 = refl;
-  no-text-6 = refl;
-  no-text-7 = refl;
-  no-text-8 = refl;
-  too-many = refl;
-  too-many-and-no-text = refl;
-  too-long = refl;
-  no-names = refl;
-  thirteen-names = refl;
-  large-buffer = refl;
-  write-1 = refl;
-  write-2 = refl;
-  write-3 = refl;
-  write-4 = refl;
-  write-5 = refl;
-  large-text-buffer = refl;
+  full-lacks-strongest = λ day r. rw r;
+  flows-see-side = λ day r. rw r;
+  visible-see-side = λ day r. rw r;
+  invisible-see-side = λ day r. rw r;
+  voice-see-side = λ day r. rw r;
+  either-across = λ day r. rw r;
 }

@@ -1,10 +1,7 @@
 pub mod Reading
 pub mod Buffers
 pub mod Answers
-pub mod Algebra
-pub mod Rules
 pub mod Extracts
 pub mod Derivations
 pub mod Numbers
-pub mod Notation
 pub mod Cases

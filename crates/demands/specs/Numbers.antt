@@ -4,7 +4,9 @@ use mathlib.Core.Path.{_≡_}
 use mathlib.Core.Logic.{_⊎_}
 use Prim.Native.Nat.{ℕ, _/_, _%_, _^_, _≤_, _<_}
 use mathlib.Core.List.{List, [], _∷_}
+use mathlib.Core.Bool.{true, false}
 use Rattle.model.specs.Readings.{accepted}
+use Rattle.model.specs.Dates.{realDate}
 use Rattle.model.specs.Ledgers.{Ledger, readLedger}
 use Rattle.model.specs.Answers.{Answer, Yes, No, Written, Refused, RefusedAt, sideNumber, number}
 use Rattle.model.specs.Questions.{actsFor, flowsTo}
@@ -50,12 +52,12 @@ abbrev pub OneOf : List Range → ℕ → Type 0
 OneOf [] r = ⊥
 OneOf (a to b ∷ l) r = ((a ≤ r) × (r ≤ b)) ⊎ OneOf l r
 
--- the refusals of each call
+-- the refusals of each call, 86 apart
 abbrev pub questionRefusals : List Range
-questionRefusals = 10 to 14 ∷ 21 to 24 ∷ 31 to 34 ∷ 41 to 44 ∷ []
+questionRefusals = 10 to 14 ∷ 84 to 85 ∷ 21 to 24 ∷ 31 to 34 ∷ 41 to 44 ∷ []
 
 abbrev pub extractRefusals : List Range
-extractRefusals = 51 to 51 ∷ 10 to 14 ∷ 41 to 44 ∷ []
+extractRefusals = 51 to 51 ∷ 10 to 14 ∷ 84 to 85 ∷ 41 to 44 ∷ []
 
 abbrev pub shortFormRefusals : List Range
 shortFormRefusals = 7 to 8 ∷ 1 to 4 ∷ []
@@ -67,10 +69,14 @@ abbrev pub termRefusals : List Range
 termRefusals = 7 to 7 ∷ 81 to 81 ∷ 1 to 4 ∷ []
 
 abbrev pub derivationRefusals : List Range
-derivationRefusals = 10 to 14 ∷ 41 to 44 ∷ 60 to 60 ∷ []
+derivationRefusals = 10 to 14 ∷ 84 to 85 ∷ 41 to 44 ∷ 60 to 60 ∷ []
 
 abbrev pub stepRefusals : List Range
 stepRefusals = 61 to 67 ∷ []
+
+-- on a real day one of these refusals, on any other 86
+abbrev pub OnDay : List Range → ℕ → ℕ → Type 0
+OnDay refusals day r = ((realDate day ≡ true) × OneOf refusals r) ⊎ ((realDate day ≡ false) × (r ≡ 86))
 
 -- the ledger is accepted, and c is a coalition of its names
 pub record OfTheJob (ledger : List ℕ) (c : ℕ) : Type 0 where
@@ -79,20 +85,20 @@ pub record OfTheJob (ledger : List ℕ) (c : ℕ) : Type 0 where
   pub below : c < 2 ^ job .names
 
 -- Acts-for and flows-to: yes, no by a coalition of the job, or refused.
-abbrev pub AnswersQuestion : List ℕ → Answer → Type 0
-AnswersQuestion ledger Yes = Unit {0}
-AnswersQuestion ledger (No s c) = OfTheJob ledger c
-AnswersQuestion ledger (Written k) = ⊥
-AnswersQuestion ledger (Refused r) = OneOf questionRefusals r
-AnswersQuestion ledger (RefusedAt k r) = ⊥
+abbrev pub AnswersQuestion : List ℕ → ℕ → Answer → Type 0
+AnswersQuestion ledger day Yes = Unit {0}
+AnswersQuestion ledger day (No s c) = OfTheJob ledger c
+AnswersQuestion ledger day (Written k) = ⊥
+AnswersQuestion ledger day (Refused r) = OnDay questionRefusals day r
+AnswersQuestion ledger day (RefusedAt k r) = ⊥
 
 -- Extract: written, or refused.
-abbrev pub AnswersExtract : Answer → Type 0
-AnswersExtract Yes = Unit {0}
-AnswersExtract (No s c) = ⊥
-AnswersExtract (Written k) = ⊥
-AnswersExtract (Refused r) = OneOf extractRefusals r
-AnswersExtract (RefusedAt k r) = ⊥
+abbrev pub AnswersExtract : ℕ → Answer → Type 0
+AnswersExtract day Yes = Unit {0}
+AnswersExtract day (No s c) = ⊥
+AnswersExtract day (Written k) = ⊥
+AnswersExtract day (Refused r) = OnDay extractRefusals day r
+AnswersExtract day (RefusedAt k r) = ⊥
 
 -- Short form, a text's codes and a term's text: written, of at most so many bytes, or refused.
 abbrev pub AnswersFront : ℕ → List Range → Answer → Type 0
@@ -103,21 +109,21 @@ AnswersFront most refusals (Refused r) = OneOf refusals r
 AnswersFront most refusals (RefusedAt k r) = ⊥
 
 -- Derivation check: accepted, refused, or refused at one of the steps, which are at most 64.
-abbrev pub AnswersDerivation : List ℕ → Answer → Type 0
-AnswersDerivation d Yes = Unit {0}
-AnswersDerivation d (No s c) = ⊥
-AnswersDerivation d (Written k) = ⊥
-AnswersDerivation d (Refused r) = OneOf derivationRefusals r
-AnswersDerivation d (RefusedAt k r) = (stepCount d ≤ 64) × (k < stepCount d) × OneOf stepRefusals r
+abbrev pub AnswersDerivation : List ℕ → ℕ → Answer → Type 0
+AnswersDerivation d day Yes = Unit {0}
+AnswersDerivation d day (No s c) = ⊥
+AnswersDerivation d day (Written k) = ⊥
+AnswersDerivation d day (Refused r) = OnDay derivationRefusals day r
+AnswersDerivation d day (RefusedAt k r) = (stepCount d ≤ 64) × (k < stepCount d) × OneOf stepRefusals r
 
 -- The claims. Each is the promise of a function of module `numbers`.
 
 pub record QuestionsAnswered : Type 0 where
-  pub acts-for : (ledger p q label : List ℕ) → AnswersQuestion ledger (actsFor ledger p q label)
-  pub flows-to : (ledger p q label : List ℕ) → AnswersQuestion ledger (flowsTo ledger p q label)
+  pub acts-for : (ledger p q label : List ℕ) (day : ℕ) → AnswersQuestion ledger day (actsFor ledger p q label day)
+  pub flows-to : (ledger p q label : List ℕ) (day : ℕ) → AnswersQuestion ledger day (flowsTo ledger p q label day)
 
 abbrev pub ExtractsAnswered : Type 0
-ExtractsAnswered = (ledger label buffer : List ℕ) → AnswersExtract (extract ledger label buffer .answer)
+ExtractsAnswered = (ledger label : List ℕ) (day : ℕ) (buffer : List ℕ) → AnswersExtract day (extract ledger label day buffer .answer)
 
 abbrev pub ShortFormsAnswered : Type 0
 ShortFormsAnswered = (n : ℕ) (term buffer : List ℕ) → AnswersFront 3700 shortFormRefusals (shorten n term buffer .answer)
@@ -127,17 +133,17 @@ pub record NotationAnswered : Type 0 where
   pub terms : (n : ℕ) (term buffer : List ℕ) → AnswersFront 192 termRefusals (writeTerm n term buffer .answer)
 
 abbrev pub DerivationsAnswered : Type 0
-DerivationsAnswered = (derivation ledger label : List ℕ) → AnswersDerivation derivation (checkDerivation derivation ledger label)
+DerivationsAnswered = (derivation ledger label : List ℕ) (day : ℕ) → AnswersDerivation derivation day (checkDerivation derivation ledger label day)
 
 -- the number of an answer gives the answer back
 abbrev pub ComesBack : Answer → Type 0
 ComesBack answer = IsIn (number answer) answer
 
 pub record AnswersComeBack : Type 0 where
-  pub acts-for : (ledger p q label : List ℕ) → ComesBack (actsFor ledger p q label)
-  pub flows-to : (ledger p q label : List ℕ) → ComesBack (flowsTo ledger p q label)
-  pub extracts : (ledger label buffer : List ℕ) → ComesBack (extract ledger label buffer .answer)
+  pub acts-for : (ledger p q label : List ℕ) (day : ℕ) → ComesBack (actsFor ledger p q label day)
+  pub flows-to : (ledger p q label : List ℕ) (day : ℕ) → ComesBack (flowsTo ledger p q label day)
+  pub extracts : (ledger label : List ℕ) (day : ℕ) (buffer : List ℕ) → ComesBack (extract ledger label day buffer .answer)
   pub short-forms : (n : ℕ) (term buffer : List ℕ) → ComesBack (shorten n term buffer .answer)
   pub texts : (n : ℕ) (text buffer : List ℕ) → ComesBack (readText n text buffer .answer)
   pub terms : (n : ℕ) (term buffer : List ℕ) → ComesBack (writeTerm n term buffer .answer)
-  pub derivations : (derivation ledger label : List ℕ) → ComesBack (checkDerivation derivation ledger label)
+  pub derivations : (derivation ledger label : List ℕ) (day : ℕ) → ComesBack (checkDerivation derivation ledger label day)

@@ -13,6 +13,7 @@ use Rattle.model.specs.Bytes.{byte}
 use Rattle.model.specs.Readings.{Reading, accepted, refused, require, isAccepted}
 use Rattle.model.specs.Coalitions.{member}
 use Rattle.model.specs.Terms.{Term}
+use Rattle.model.specs.Dates.{realDate}
 use Rattle.model.specs.Grants.{under, countsUnder, Grant, ofGrant}
 use Rattle.model.specs.Ledgers.{readBook, Ledger, grantBlock}
 use Rattle.model.specs.Answers.{Answer, Yes, RefusedAt, Refused as RefusedAnswer}
@@ -139,36 +140,41 @@ module _ (l : Ledger) (f : Grant → Bool) (d : List ℕ) where
 pub length-most : (k : ℕ) → derivationLength k ≡ true → k ≤ 8704
 length-most k e = leb-true k 8704 (and-right (leb 136 k) (leb k 8704) (and-right (eqb (k % 136) 0) (leb 136 k && leb k 8704) e))
 
--- ---- the whole check: the ledger and the label, the length, the steps
+-- ---- the whole check: the day, the ledger and the label, the length, the steps
 
-module _ (d ledger label : List ℕ) where
-  pub book-refused : (r : ℕ) → readBook ledger label ≡ refused r → checkDerivation d ledger label ≡ RefusedAnswer r
+module _ (d ledger label : List ℕ) (day : ℕ) where
+  pub day-refused : realDate day ≡ false → checkDerivation d ledger label day ≡ RefusedAnswer 86
   unfolding checkDerivation
-  book-refused r e = rw e
+  day-refused e = rw e
+
+module _ (d ledger label : List ℕ) (day : ℕ) (real : realDate day ≡ true) where
+  pub book-refused : (r : ℕ) → readBook ledger label day ≡ refused r → checkDerivation d ledger label day ≡ RefusedAnswer r
+  unfolding checkDerivation
+  book-refused r e = rw (real, e)
 
   module _ (n k : ℕ) (read : AcceptedBook ledger label n k) where
-    pub length-refused : derivationLength (length d) ≡ false → checkDerivation d ledger label ≡ RefusedAnswer 60
+    pub length-refused : derivationLength (length d) ≡ false → checkDerivation d ledger label day ≡ RefusedAnswer 60
     unfolding checkDerivation
-    length-refused e = rw (read .is, e)
+    length-refused e = rw (real, read .is day, e)
 
     -- what the steps' check says of the bits, and what the bits are
     pub steps-checked : (bits : ℕ) (answer : Answer) → derivationLength (length d) ≡ true
-        → bits ≡ countedIn ledger n k label
+        → bits ≡ countedIn ledger n k label day
         → ((l : Ledger) (f : Grant → Bool) → LedgerOf ledger n k l → bits ≡ grantBits f (l .grants) → answer ≡ checkSteps l f d 0 (stepCount d))
-        → answer ≡ checkDerivation d ledger label
+        → answer ≡ checkDerivation d ledger label day
     unfolding checkDerivation
     steps-checked bits answer e counted checked =
-        rw (read .is, e) (checked (read .book) (countsUnder (under n (read .L))) (read .of) (counted ∙ counted-in ledger n k (read .book) (read .of) (read .L) label (read .label-is)))
+        rw (real, read .is day, e) (checked (read .book) (countsUnder (under n (read .L) day)) (read .of) (counted ∙ counted-in ledger n k (read .book) (read .of) (read .L) label day (read .label-is)))
 
 -- ---- quoting
 
-module _ (d ledger label : List ℕ) (k : ℕ) where
+module _ (d ledger label : List ℕ) (day k : ℕ) where
   -- the check accepts: the block of the grant that step k names, if there is such a step and it is one of rule 2
-  pub quote-told : (step : List ℕ) (there granted : Bool) → checkDerivation d ledger label ≡ Yes → step ≡ stepAt d k → ltb k (stepCount d) ≡ there → eqb (byte 0 step) 2 ≡ granted
-      → quote d ledger label k ≡ cond (there && granted) (grantBlock ledger (byte 3 step)) []
+  pub quote-told : (step : List ℕ) (there granted : Bool) → checkDerivation d ledger label day ≡ Yes → step ≡ stepAt d k → ltb k (stepCount d) ≡ there → eqb (byte 0 step) 2 ≡ granted
+      → quote d ledger label day k ≡ cond (there && granted) (grantBlock ledger (byte 3 step)) []
   unfolding quote
   quote-told step there granted e at h r = rw (e, ← at, h, r)
 
-  pub quote-refused : (a : Answer) → checkDerivation d ledger label ≡ a → ((part : List ℕ) → ifAccepted a part ≡ []) → quote d ledger label k ≡ []
+  pub quote-refused : (a : Answer) → checkDerivation d ledger label day ≡ a → ((part : List ℕ) → ifAccepted a part ≡ []) → quote d ledger label day k ≡ []
   unfolding quote
   quote-refused a e none = rw e (none _)

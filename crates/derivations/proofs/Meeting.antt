@@ -57,6 +57,6 @@ module _ (ledger : List ℕ) (n : ℕ) (step : List ℕ) (l : Ledger) (ready : R
   grant-met rule compared =
       let there : ltb (byte 3 step) (length (l .grants)) ≡ true = rw rule at (ready .grant-there) in
       let below = ltb-true (byte 3 step) (length (l .grants)) there in
-      let other : Grant = record { p = bottom; q = bottom; label = bottom } in
+      let other : Grant = record { p = bottom; q = bottom; label = bottom; first = 0; last = 0 } in
       let stands = ledger-stands ledger l (ready .is) .grant (byte 3 step) other below in
       rw (ofGrant-getD (λ g. same (left step) (codes (g .p)) && same (right step) (codes (g .q))) (l .grants) (byte 3 step) other below, ← stands .p .written, ← stands .q .written) compared

@@ -1,4 +1,4 @@
-// The derivation check, step by step, and quoting (document 01, "Derivations").
+// The derivation check, step by step, and quoting (document 01, "Derivations"), on a day (document 02, K2).
 use ledgers::LedgerReading;
 use terms::TermReading;
 ghost use mathlib.Core.Path.{_≡_};
@@ -417,7 +417,7 @@ fn step_refusal(check: StepCheck) -> u8
 // What checking a derivation gives.
 pub enum Checked {
     Accepted,
-    // The number of the refusal, of the ledger, the label or the derivation's length.
+    // The number of the refusal, of the day, the ledger, the label or the derivation's length.
     Refused(u8),
     // The step, for which the figure for C has a byte, and the number of its refusal.
     RefusedAt(u8, u8),
@@ -441,9 +441,13 @@ fn check_steps(derivation: &[u8], ledger: &[u8], n: u64, grants: usize, counted:
 }
 
 // Checks a derivation. The grants that count are judged once.
-pub fn check_derivation(derivation: &[u8], ledger: &[u8], label: &[u8]) -> Checked
-    ensures { λ r. ⌜ checkedOf r ≡ checkDerivation (now (derivation .entry)) (now (ledger .entry)) (now (label .entry)) ⌝ }
+pub fn check_derivation(derivation: &[u8], ledger: &[u8], label: &[u8], day: u32) -> Checked
+    ensures { λ r. ⌜ checkedOf r ≡ checkDerivation (now (derivation .entry)) (now (ledger .entry)) (now (label .entry)) day ⌝ }
 {
+    let real = dates::real_date(day);
+    if !real {
+        return Checked::Refused(86);
+    }
     let book = ledgers::read_book(ledger, label);
     let LedgerReading::Accepted { names: n, grants } = book else {
         return Checked::Refused(ledgers::ledger_refusal(book));
@@ -452,16 +456,22 @@ pub fn check_derivation(derivation: &[u8], ledger: &[u8], label: &[u8]) -> Check
     if !fits {
         return Checked::Refused(60);
     }
-    let counted = counting::counted(ledger, n, grants, label);
+    let counted = counting::counted(ledger, n, grants, label, day);
     check_steps(derivation, ledger, n, grants, counted)
 }
 
 // The block of the grant that a step of an accepted derivation names, a part of the ledger; an empty part for any refusal, a step past
 // the end, or a rule other than 2.
-pub fn quote<'a, 'b>(derivation: &'b [u8], ledger: &'a [u8], label: &[u8], step: u64) -> &'a [u8]
-    ensures { λ r. ⌜ now r ≡ quote (now (derivation .entry)) (now (ledger .entry)) (now (label .entry)) step ⌝ }
+pub fn quote<'a, 'b>(
+    derivation: &'b [u8],
+    ledger: &'a [u8],
+    label: &[u8],
+    day: u32,
+    step: u64,
+) -> &'a [u8]
+    ensures { λ r. ⌜ now r ≡ quote (now (derivation .entry)) (now (ledger .entry)) (now (label .entry)) day step ⌝ }
 {
-    let checked = check_derivation(derivation, ledger, label);
+    let checked = check_derivation(derivation, ledger, label, day);
     let Checked::Accepted = checked else {
         return &ledger[..0];
     };

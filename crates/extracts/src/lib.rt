@@ -1,4 +1,4 @@
-// The extract call (document 01, "Extract").
+// The extract call (document 01, "Extract"), on a day (document 02, K2).
 use ledgers::LedgerReading;
 use words::Row;
 ghost use mathlib.Core.Path.{_≡_};
@@ -71,14 +71,18 @@ fn copy_half(half: &[u8; 512], buffer: &mut [u8], at: usize)
 // What an extract call gives.
 pub enum Extracted {
     Written,
-    // The number of the refusal: 51, the ledger's 10 to 14, the label's 41 to 44.
+    // The number of the refusal: 86, 51, the ledger's 10 to 14, 84 and 85, the label's 41 to 44.
     Refused(u8),
 }
 
-// Writes the extract of a ledger under a label. The buffer is written once nothing can be refused any more.
-pub fn extract(ledger: &[u8], label: &[u8], buffer: &mut [u8]) -> Extracted
-    ensures { λ r. ⌜ outcomeOf r (now (buffer .exit)) ≡ extract (now (ledger .entry)) (now (label .entry)) (now (buffer .entry)) ⌝ }
+// Writes the extract of a ledger under a label on a day. The buffer is written once nothing can be refused any more.
+pub fn extract(ledger: &[u8], label: &[u8], day: u32, buffer: &mut [u8]) -> Extracted
+    ensures { λ r. ⌜ outcomeOf r (now (buffer .exit)) ≡ extract (now (ledger .entry)) (now (label .entry)) day (now (buffer .entry)) ⌝ }
 {
+    let real = dates::real_date(day);
+    if !real {
+        return Extracted::Refused(86);
+    }
     if buffer.len() != 1024 {
         return Extracted::Refused(51);
     }
@@ -86,7 +90,7 @@ pub fn extract(ledger: &[u8], label: &[u8], buffer: &mut [u8]) -> Extracted
     let LedgerReading::Accepted { names, grants } = book else {
         return Extracted::Refused(ledgers::ledger_refusal(book));
     };
-    let counted = counting::counted(ledger, names, grants, label);
+    let counted = counting::counted(ledger, names, grants, label, day);
     let mut see = [0u8; 512];
     let mut change = [0u8; 512];
     mark_sound(ledger, names, grants, counted, &mut see, &mut change);

@@ -1,7 +1,7 @@
 // Fields of bytes, which ledgers and derivations are made of: numbers, parts, pieces of one size, filler (document 01, "The ledger" and "Derivations").
 ghost use mathlib.Core.Path.{_≡_};
 ghost use Prim.Native.Nat.{_*_};
-ghost use Rattle.model.specs.Bytes.{byte, field, twoBytes, zeros, multipleUpTo};
+ghost use Rattle.model.specs.Bytes.{byte, field, twoBytes, fourBytes, zeros, multipleUpTo};
 
 // All bytes of the part are 00. No branch for a byte: what is not 0 stays in `any`.
 pub fn filler(part: &[u8]) -> bool
@@ -17,17 +17,32 @@ pub fn filler(part: &[u8]) -> bool
 }
 
 // A two-byte field, big-endian, as a number. A byte that is missing counts as 00.
-pub fn two_bytes(bytes: &[u8], at: usize) -> u32
+pub fn two_bytes(bytes: &[u8], at: usize) -> u16
     ensures { λ r. ⌜ r ≡ twoBytes at (now (bytes .entry)) ⌝ }
 {
     if bytes.len() <= at {
         return 0;
     }
-    let high = bytes[at] as u32 * 256;
+    let high = bytes[at] as u16 * 256;
     if bytes.len() - at == 1 {
         return high;
     }
-    high + bytes[at + 1] as u32
+    high + bytes[at + 1] as u16
+}
+
+// A four-byte field likewise. Where it is whole, its bytes are read at one go.
+pub fn four_bytes(bytes: &[u8], at: usize) -> u32
+    ensures { λ r. ⌜ r ≡ fourBytes at (now (bytes .entry)) ⌝ }
+{
+    if bytes.len() <= at {
+        return 0;
+    }
+    if bytes.len() - at < 4 {
+        return two_bytes(bytes, at) as u32 * 65536 + two_bytes(bytes, at + 2) as u32;
+    }
+    let high = bytes[at] as u32 * 256 + bytes[at + 1] as u32;
+    let low = bytes[at + 2] as u32 * 256 + bytes[at + 3] as u32;
+    high * 65536 + low
 }
 
 // A multiple of `size` from `size` to `most`: whole pieces, at least one.

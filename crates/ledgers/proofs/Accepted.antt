@@ -51,19 +51,19 @@ pub record AcceptedBook (ledger label : List ℕ) (n k : ℕ) : Type 0 where
   pub L : Term
   pub of : LedgerOf ledger n k book
   pub label-is : readTerm n label ≡ accepted L
-  pub is : readBook ledger label ≡ accepted (record { ledger = book; asked = under n L })
+  pub is : (day : ℕ) → readBook ledger label day ≡ accepted (record { ledger = book; asked = under n L day })
 
 module _ (ledger label : List ℕ) where
-  book-is : (n k : ℕ) (l : Ledger) (L : Term) → LedgerOf ledger n k l → readTerm n label ≡ accepted L → readBook ledger label ≡ accepted (record { ledger = l; asked = under n L })
+  book-is : (n k : ℕ) (l : Ledger) (L : Term) → LedgerOf ledger n k l → readTerm n label ≡ accepted L → (day : ℕ) → readBook ledger label day ≡ accepted (record { ledger = l; asked = under n L day })
   unfolding readBook
-  book-is n k l L of e = rw (of .is, ← of .names, e)
+  book-is n k l L of e day = rw (of .is, ← of .names, e)
 
-  pub accepted-book : (n k : ℕ) → bookReading (readBook ledger label) ≡ Accepted n k → AcceptedBook ledger label n k
+  pub accepted-book : (day n k : ℕ) → bookReading (readBook ledger label day) ≡ Accepted n k → AcceptedBook ledger label n k
   unfolding readBook
-  accepted-book n k e = on (readLedger ledger) refl e
+  accepted-book day n k e = on (readLedger ledger) refl e
     where
       onLabel : (l : Ledger) → readLedger ledger ≡ accepted l → (r : Reading Term) → readTerm (l .names) label ≡ r
-          → bookReading (andThen (andThen (from 40 r) (λ L. accepted (under (l .names) L))) (λ u. accepted (record { ledger = l; asked = u }))) ≡ Accepted n k → AcceptedBook ledger label n k
+          → bookReading (andThen (andThen (from 40 r) (λ L. accepted (under (l .names) L day))) (λ u. accepted (record { ledger = l; asked = u }))) ≡ Accepted n k → AcceptedBook ledger label n k
       onLabel l is (accepted L) f g =
           let names : n ≡ l .names = cc in
           let of : LedgerOf ledger n k l = record { is = is; names = names; count = cc } in
@@ -72,29 +72,29 @@ module _ (ledger label : List ℕ) where
       onLabel l is (refused r) f g = absurd (let z : _≡_ {A = ℕ} 0 1 = cc in omega arith)
 
       on : (r : Reading Ledger) → readLedger ledger ≡ r
-          → bookReading (andThen r (λ l. andThen (readUnder (l .names) label) (λ u. accepted (record { ledger = l; asked = u })))) ≡ Accepted n k → AcceptedBook ledger label n k
+          → bookReading (andThen r (λ l. andThen (readUnder (l .names) label day) (λ u. accepted (record { ledger = l; asked = u })))) ≡ Accepted n k → AcceptedBook ledger label n k
       on (accepted l) f g = onLabel l f (readTerm (l .names) label) refl g
       on (refused r) f g = absurd (let z : _≡_ {A = ℕ} 0 1 = cc in omega arith)
 
-  refused-book : (r : ℕ) → bookReading (readBook ledger label) ≡ Refused r → readBook ledger label ≡ refused r
-  refused-book r e = by (readBook ledger label) e
+  refused-book : (day r : ℕ) → bookReading (readBook ledger label day) ≡ Refused r → readBook ledger label day ≡ refused r
+  refused-book day r e = by (readBook ledger label day) e
     where
       by : (a : Reading Book) → bookReading a ≡ Refused r → a ≡ refused r
       by (accepted b) g = cc
       by (refused k) g = cc
 
   -- the number that the code hands on is the reader's refusal
-  pub book-refused : (s : LedgerReading) (k r : ℕ) → s ≡ bookReading (readBook ledger label) → s ≡ Refused k → r ≡ ledgerRefusal s → readBook ledger label ≡ refused r
-  book-refused s k r a b e = refused-book k (sym a ∙ b) ∙ ap refused (sym (e ∙ ap ledgerRefusal b))
+  pub book-refused : (day : ℕ) (s : LedgerReading) (k r : ℕ) → s ≡ bookReading (readBook ledger label day) → s ≡ Refused k → r ≡ ledgerRefusal s → readBook ledger label day ≡ refused r
+  book-refused day s k r a b e = refused-book day k (sym a ∙ b) ∙ ap refused (sym (e ∙ ap ledgerRefusal b))
 
   -- ---- what the code that reads both gives
-  pub book-ledger : (s : LedgerReading) (r : ℕ) → s ≡ ledgerReading (readLedger ledger) → s ≡ Refused r → s ≡ bookReading (readBook ledger label)
+  pub book-ledger : (day : ℕ) (s : LedgerReading) (r : ℕ) → s ≡ ledgerReading (readLedger ledger) → s ≡ Refused r → s ≡ bookReading (readBook ledger label day)
   unfolding readBook
-  book-ledger s r a b = b ∙ rw (refused-ledger ledger r (sym a ∙ b))
+  book-ledger day s r a b = b ∙ rw (refused-ledger ledger r (sym a ∙ b))
 
-  pub book-label : (n k r : ℕ) → AcceptedLedger ledger n k → readTerm n label ≡ refused r → Refused (40 + r) ≡ bookReading (readBook ledger label)
+  pub book-label : (day n k r : ℕ) → AcceptedLedger ledger n k → readTerm n label ≡ refused r → Refused (40 + r) ≡ bookReading (readBook ledger label day)
   unfolding readBook
-  book-label n k r l e = rw (l .is, l .names, e)
+  book-label day n k r l e = rw (l .is, l .names, e)
 
-  pub book-both : (n k : ℕ) (L : Term) → AcceptedLedger ledger n k → readTerm n label ≡ accepted L → Accepted n k ≡ bookReading (readBook ledger label)
-  book-both n k L l e = let of = ledger-of ledger n k l in rw (book-is n k (l .ledger) L of e, ← of .names, ← of .count)
+  pub book-both : (day n k : ℕ) (L : Term) → AcceptedLedger ledger n k → readTerm n label ≡ accepted L → Accepted n k ≡ bookReading (readBook ledger label day)
+  book-both day n k L l e = let of = ledger-of ledger n k l in rw (book-is n k (l .ledger) L of e day, ← of .names, ← of .count)

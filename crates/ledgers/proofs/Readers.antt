@@ -2,21 +2,22 @@
 use Prim.Native.Nat.{ℕ, suc, _+_, _-_, _*_, _/_, _≤_, _<_}
 use native.Mathlib.Omega.{arith}
 use mathlib.Core.Path.{_≡_, refl, sym, ap, _∙_}
-use mathlib.Core.Bool.{true}
+use mathlib.Core.Bool.{Bool, true, false, cond, _&&_}
 use mathlib.Core.List.{List, [], _∷_}
 use lib.ListN.{length, drop, drop-of-length-le}
 use lib.Seq.{drop-cons}
 use Rattle.model.specs.Bytes.{field}
-use Rattle.model.specs.Readings.{Reading, accepted, refused, andThen, refusedAs}
+use Rattle.model.specs.Readings.{Reading, accepted, refused, andThen, require, refusedAs}
 use Rattle.model.specs.Terms.{Term, readTerm}
+use Rattle.model.specs.Dates.{dateOrNone, inOrder}
 use Rattle.model.specs.Grants.{Grant}
-use Rattle.model.specs.Ledgers.{grantBlocks, grantForm, pBytes, qBytes, labelBytes, readTerms, readGrant, readGrants}
+use Rattle.model.specs.Ledgers.{grantBlocks, grantForm, pBytes, qBytes, labelBytes, firstDay, lastDay, readTerms, readDays, readGrant, readGrants}
 use Rattle.model.proofs.Blocks.{length-grantBlocks, getD-grantBlocks}
 use Rattle.model.proofs.Stands.{read-grants}
 use Rattle.terms.specs.Readings.{termReading}
 use Rattle.terms.specs.declared.TermReading.{TermReading}
 use Rattle.terms.specs.declared.TermReading.the-variants.{Accepted as AcceptedTerm, Refused as RefusedTerm}
-use Rattle.ledgers.specs.Readings.{grantReading, ledgerReading}
+use Rattle.ledgers.specs.Readings.{grantReading, daysReading, ledgerReading}
 use Rattle.ledgers.specs.declared.GrantReading.{GrantReading}
 use Rattle.ledgers.specs.declared.GrantReading.the-variants.{Accepted, Refused}
 use Rattle.ledgers.specs.declared.LedgerReading.{LedgerReading}
@@ -27,17 +28,22 @@ abbrev pub onTerm : TermReading → GrantReading → GrantReading
 onTerm AcceptedTerm next = next
 onTerm (RefusedTerm r) next = Refused 14
 
--- of a block that has its form, the answer goes by the answers for its three terms, in their order
+-- of a block that has its form, the answer goes by the answers for its three terms, in their order, and for its days
 pub grant-answer : (n : ℕ) (block : List ℕ) → grantForm block ≡ true
     → grantReading (readGrant n block)
-    ≡ onTerm (termReading (readTerm n (pBytes block))) (onTerm (termReading (readTerm n (qBytes block))) (onTerm (termReading (readTerm n (labelBytes block))) Accepted))
-unfolding readGrant readTerms
+    ≡ onTerm (termReading (readTerm n (pBytes block))) (onTerm (termReading (readTerm n (qBytes block))) (onTerm (termReading (readTerm n (labelBytes block))) (daysReading (firstDay block) (lastDay block))))
+unfolding readGrant readTerms readDays daysReading
 grant-answer n block f = rw f (three (readTerm n (pBytes block)) (readTerm n (qBytes block)) (readTerm n (labelBytes block)))
   where
+    days : (a b : Bool) (g : Grant) → grantReading (require a 84 (require b 85 (accepted g))) ≡ cond a (cond b Accepted (Refused 85)) (Refused 84)
+    days true true g = refl
+    days true false g = refl
+    days false b g = refl
+
     three : (p q d : Reading Term)
-        → grantReading {A = Grant} (refusedAs 14 (andThen p (λ a. andThen q (λ b. andThen d (λ c. accepted (record { p = a; q = b; label = c }))))))
-        ≡ onTerm (termReading p) (onTerm (termReading q) (onTerm (termReading d) Accepted))
-    three (accepted a) (accepted b) (accepted c) = refl
+        → grantReading {A = Grant} (andThen (refusedAs 14 (andThen p (λ a. andThen q (λ b. andThen d (λ c. accepted (record { p = a; q = b; label = c; first = firstDay block; last = lastDay block })))))) readDays)
+        ≡ onTerm (termReading p) (onTerm (termReading q) (onTerm (termReading d) (daysReading (firstDay block) (lastDay block))))
+    three (accepted a) (accepted b) (accepted c) = days (dateOrNone (firstDay block) && dateOrNone (lastDay block)) (inOrder (firstDay block) (lastDay block)) _
     three (accepted a) (accepted b) (refused r) = refl
     three (accepted a) (refused r) d = refl
     three (refused r) q d = refl

@@ -5,6 +5,6 @@ use mathlib.Core.List.{List}
 use Rattle.model.specs.Bytes.{byte, field, zeros}
 use Rattle.model.specs.Terms.{termLength}
 
--- byte k is the length of the term that begins at `at`, and the rest of the field of `size` bytes is filler
-unfoldable pub termForm : ℕ → ℕ → ℕ → List ℕ → Bool
-termForm k at size block = termLength (byte k block) && zeros (field (at + byte k block) (size - byte k block) block)
+-- byte k is the length of the term that begins at `at`, and the rest of its field of 64 bytes is filler
+unfoldable pub termForm : ℕ → ℕ → List ℕ → Bool
+termForm k at block = termLength (byte k block) && zeros (field (at + byte k block) (64 - byte k block) block)

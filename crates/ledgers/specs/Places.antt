@@ -1,4 +1,4 @@
--- Where the terms of grant k begin in a ledger (document 01, "The ledger"). Assumes nothing: these are definitions.
+-- Where the terms and the days of grant k begin in a ledger (document 01, "The ledger"; document 02, K2). Assumes nothing: these are definitions.
 use Prim.Native.Nat.{ℕ, _+_, _*_, min}
 
 -- The block of grant k begins after block 0 and those of the grants before it. No ledger has more grants than 64: a k past that is taken as 64.
@@ -13,3 +13,6 @@ qPlace k = blockPlace k + 80
 
 abbrev pub labelPlace : ℕ → ℕ
 labelPlace k = blockPlace k + 144
+
+abbrev pub daysPlace : ℕ → ℕ
+daysPlace k = blockPlace k + 208

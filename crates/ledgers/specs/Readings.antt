@@ -1,10 +1,12 @@
 -- What each case of the readers' answers stands for, in the words and numbers of document 01, "The ledger" and "Refusals by operation".
 -- Assumes nothing: these are definitions.
 use mathlib.Core.Path.{_≡_}
+use mathlib.Core.Bool.{cond, _&&_}
 use mathlib.Core.List.{List}
 use Prim.Native.Nat.{ℕ}
 use lib.ListN.{length}
 use Rattle.model.specs.Readings.{Reading, accepted, refused}
+use Rattle.model.specs.Dates.{dateOrNone, inOrder}
 use Rattle.model.specs.Ledgers.{Ledger, readLedger, Book}
 use Rattle.ledgers.specs.declared.GrantReading.{GrantReading}
 use Rattle.ledgers.specs.declared.GrantReading.the-variants.{Accepted, Refused}
@@ -15,6 +17,10 @@ use Rattle.ledgers.specs.declared.LedgerReading.the-variants.{Accepted a
 abbrev pub grantReading : {A : Type 0} → Reading A → GrantReading
 grantReading (accepted a) = Accepted
 grantReading (refused r) = Refused r
+
+-- a grant's days were read: 84, then 85
+unfoldable pub daysReading : ℕ → ℕ → GrantReading
+daysReading first last = cond (dateOrNone first && dateOrNone last) (cond (inOrder first last) Accepted (Refused 85)) (Refused 84)
 
 -- the number of the refusal, 0 where there is none
 abbrev pub grantRefusal : GrantReading → ℕ

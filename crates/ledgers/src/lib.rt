@@ -2,15 +2,15 @@
 use terms::TermReading;
 ghost use mathlib.Core.Path.{_≡_};
 ghost use mathlib.Core.Bool.{_&&_};
-ghost use Prim.Native.Nat.{_+_, _≤_, _<_};
+ghost use Prim.Native.Nat.{ℕ, _+_, _≤_, _<_};
 ghost use lib.ListN.{length};
 ghost use Rattle.model.specs.Bytes.{byte, field};
 ghost use Rattle.model.specs.Terms.{readTerm};
-ghost use Rattle.model.specs.Ledgers.{checked, header, grantBlocks, allChecked, headerForm, grantForm, grantBlock, pBytes, qBytes, readGrant, readGrants, readLedger, readBook};
+ghost use Rattle.model.specs.Ledgers.{checked, header, grantBlocks, allChecked, headerForm, grantForm, grantBlock, pBytes, qBytes, firstDay, lastDay, readGrant, readGrants, readLedger, readBook};
 ghost use Rattle.terms.specs.Readings.{termReading};
 ghost use Rattle.ledgers.specs.Forms.{termForm};
-ghost use Rattle.ledgers.specs.Places.{pPlace, qPlace, labelPlace};
-ghost use Rattle.ledgers.specs.Readings.{grantReading, grantRefusal, ledgerReading, bookReading, ledgerRefusal};
+ghost use Rattle.ledgers.specs.Places.{pPlace, qPlace, labelPlace, daysPlace};
+ghost use Rattle.ledgers.specs.Readings.{grantReading, daysReading, grantRefusal, ledgerReading, bookReading, ledgerRefusal};
 
 // Every block's check holds.
 fn all_checks(ledger: &[u8]) -> bool
@@ -51,10 +51,10 @@ fn header_form(block: &[u8], count: usize) -> bool
     fields::filler(&block[4..510])
 }
 
-// Byte k is the length of the term that begins at `at`, and the rest of the field of `size` bytes is filler.
-fn term_form(block: &[u8], k: usize, at: usize, size: usize) -> bool
-    requires { ⌜ (k < length (now block)) × (64 ≤ size) × (at + size ≤ length (now block)) ⌝ }
-    ensures { λ r. ⌜ r ≡ termForm k at size (now (block .entry)) ⌝ }
+// Byte k is the length of the term that begins at `at`, and the rest of its field of 64 bytes is filler.
+fn term_form(block: &[u8], k: usize, at: usize) -> bool
+    requires { ⌜ (k < length (now block)) × (at + 64 ≤ length (now block)) ⌝ }
+    ensures { λ r. ⌜ r ≡ termForm k at (now (block .entry)) ⌝ }
 {
     let len = block[k] as usize;
     if len < 1 {
@@ -63,7 +63,7 @@ fn term_form(block: &[u8], k: usize, at: usize, size: usize) -> bool
     if 64 < len {
         return false;
     }
-    fields::filler(&block[at + len..at + size])
+    fields::filler(&block[at + len..at + 64])
 }
 
 // A grant's block: kind, lengths and filler.
@@ -78,21 +78,25 @@ fn grant_form(block: &[u8]) -> bool
     if !unused {
         return false;
     }
-    let p = term_form(block, 1, 16, 64);
+    let p = term_form(block, 1, 16);
     if !p {
         return false;
     }
-    let q = term_form(block, 2, 80, 64);
+    let q = term_form(block, 2, 80);
     if !q {
         return false;
     }
-    term_form(block, 3, 144, 366)
+    let label = term_form(block, 3, 144);
+    if !label {
+        return false;
+    }
+    fields::filler(&block[216..510])
 }
 
 // What reading a grant's block gives, or the blocks of all grants.
 enum GrantReading {
     Accepted,
-    // The number of the refusal, 13 or 14.
+    // The number of the refusal: 13, 14, 84 or 85.
     Refused(u8),
 }
 
@@ -100,7 +104,7 @@ enum GrantReading {
 pub enum LedgerReading {
     // The number of names, and of grants.
     Accepted { names: u64, grants: usize },
-    // The number of the refusal: the ledger's 10 to 14, the label's 41 to 44.
+    // The number of the refusal: the ledger's 10 to 14, 84 and 85, the label's 41 to 44.
     Refused(u8),
 }
 
@@ -113,7 +117,28 @@ fn read_at(block: &[u8], k: usize, at: usize, n: u64) -> TermReading
     terms::read_term(&block[at..at + len], n)
 }
 
-// The block of a grant in a job of n names: its form, then its three terms, each read as a part of the block.
+// The days of a grant: 84 where one is no date and not 0, 85 where the first is after the last.
+fn read_days(block: &[u8]) -> GrantReading
+    ensures { λ r. ⌜ r ≡ daysReading (firstDay (now (block .entry))) (lastDay (now (block .entry))) ⌝ }
+{
+    let first = fields::four_bytes(block, 208);
+    let last = fields::four_bytes(block, 212);
+    let begins = dates::date_or_none(first);
+    if !begins {
+        return GrantReading::Refused(84);
+    }
+    let ends = dates::date_or_none(last);
+    if !ends {
+        return GrantReading::Refused(84);
+    }
+    let ordered = dates::in_order(first, last);
+    if !ordered {
+        return GrantReading::Refused(85);
+    }
+    GrantReading::Accepted
+}
+
+// The block of a grant in a job of n names: its form, then its three terms, each read as a part of the block, then its days.
 fn read_grant(block: &[u8], n: u64) -> GrantReading
     requires { ⌜ 512 ≤ length (now block) ⌝ }
     ensures { λ r. ⌜ r ≡ grantReading (readGrant n (now (block .entry))) ⌝ }
@@ -134,7 +159,7 @@ fn read_grant(block: &[u8], n: u64) -> GrantReading
     let TermReading::Accepted = label else {
         return GrantReading::Refused(14);
     };
-    GrantReading::Accepted
+    read_days(block)
 }
 
 // The blocks of all grants, one after another.
@@ -192,9 +217,9 @@ pub fn read_ledger(ledger: &[u8]) -> LedgerReading
     }
 }
 
-// Reads a ledger, and then the label that it is asked under: the ledger's refusals, then the label's, 41 to 44.
+// Reads a ledger, and then the label that it is asked under: the ledger's refusals, then the label's, 41 to 44. No day changes that.
 pub fn read_book(ledger: &[u8], label: &[u8]) -> LedgerReading
-    ensures { λ r. ⌜ r ≡ bookReading (readBook (now (ledger .entry)) (now (label .entry))) ⌝ }
+    ensures { λ r. ⌜ ((day : ℕ) → r ≡ bookReading (readBook (now (ledger .entry)) (now (label .entry)) day)) ⌝ }
 {
     let read = read_ledger(ledger);
     let LedgerReading::Accepted { names, grants } = read else {
@@ -269,4 +294,14 @@ pub fn label_place(k: usize) -> usize
         return 33424;
     }
     512 * k + 656
+}
+
+// And where its days do: the first, and four bytes on the last.
+pub fn days_place(k: usize) -> usize
+    ensures { λ r. ⌜ r ≡ daysPlace k ⌝ }
+{
+    if 64 < k {
+        return 33488;
+    }
+    512 * k + 720
 }

@@ -5,6 +5,7 @@ pub mod Reading
 pub mod Refusals
 pub mod Search
 pub mod Judge
+pub mod Dates
 pub mod Sound
 pub mod Packed
 pub mod Table

@@ -48,10 +48,10 @@ showing n holds other = other
 unfoldable pub telling : ℕ → Marks → Marks → Question
 telling n S T = showing n (missing n S T) (showing n (missing n T S) (question n confidentiality 0))
 
--- two ledgers and a label
-unfoldable pub witness : List ℕ → List ℕ → List ℕ → Reading Question
-witness a b label =
+-- two ledgers, a label and a day
+unfoldable pub witness : List ℕ → List ℕ → List ℕ → ℕ → Reading Question
+witness a b label day =
     andThen (readLedger a)
     (λ l. andThen (readLedger b)
-    (λ m. andThen (readUnder (l .names) label)
+    (λ m. andThen (readUnder (l .names) label day)
     (λ u. accepted (telling (l .names) (soundUnder l u) (soundUnder m u)))))

@@ -66,16 +66,16 @@ module _ (counts : ℕ → Bool) (k : ℕ) (h : k < 64) (d : Grant) (f : Marks) 
 -- ---- the grants one after another
 
 -- the bit of a grant says whether it counts
-counted-bit : (ledger label : List ℕ) (n grants k : ℕ) → grants ≤ 64 → k < grants → member k (countedIn ledger n grants label) ≡ countsAt ledger n label k
+counted-bit : (ledger label : List ℕ) (day n grants k : ℕ) → grants ≤ 64 → k < grants → member k (countedIn ledger n grants label day) ≡ countsAt ledger n label day k
 unfolding countedIn
-counted-bit ledger label n grants k most below =
+counted-bit ledger label day n grants k most below =
     let e : 0 + k ≡ k = omega arith in
-    rw (le-ltb 64 grants most) (member-packed (countsIn ledger n grants label) 0 64 k (omega arith) ∙ rw (e, lt-ltb k grants below))
+    rw (le-ltb 64 grants most) (member-packed (countsIn ledger n grants label day) 0 64 k (omega arith) ∙ rw (e, lt-ltb k grants below))
 
-pub sift-more : (ledger label : List ℕ) (n grants k : ℕ) (f : Marks) (g : ℕ) (sifted : Sifted) → grants ≤ 64 → k < grants
-    → SiftedTo (countsAt ledger n label) (keepIf (countsAt ledger n label k) (keepFirst ledger (countedIn ledger n grants label) f g k) (grantIn ledger k)) g sifted
-    → SiftedTo (countsAt ledger n label) (keepFirst ledger (countedIn ledger n grants label) f g (k + 1)) g sifted
-sift-more ledger label n grants k f g sifted most below h = record {
-  rows = keep-step ledger (countedIn ledger n grants label) f g k (sifted .left) (rw (counted-bit ledger label n grants k most below) (h .rows));
+pub sift-more : (ledger label : List ℕ) (day n grants k : ℕ) (f : Marks) (g : ℕ) (sifted : Sifted) → grants ≤ 64 → k < grants
+    → SiftedTo (countsAt ledger n label day) (keepIf (countsAt ledger n label day k) (keepFirst ledger (countedIn ledger n grants label day) f g k) (grantIn ledger k)) g sifted
+    → SiftedTo (countsAt ledger n label day) (keepFirst ledger (countedIn ledger n grants label day) f g (k + 1)) g sifted
+sift-more ledger label day n grants k f g sifted most below h = record {
+  rows = keep-step ledger (countedIn ledger n grants label day) f g k (sifted .left) (rw (counted-bit ledger label day n grants k most below) (h .rows));
   so = h .so;
 }

@@ -1,4 +1,4 @@
-// Acts-for and flows-to questions (document 01): the coalitions that refute, the first of them, and the answer.
+// Acts-for and flows-to questions (document 01), on a day (document 02, K2): the coalitions that refute, the first of them, and the answer.
 use counting::Known;
 use ledgers::LedgerReading;
 use terms::TermReading;
@@ -132,9 +132,9 @@ struct Sifted {
 }
 
 // Takes away those that break grant k, if it counts. It is judged only where one of them breaks it.
-fn sift_grant(ledger: &[u8], n: u64, k: usize, label: &[u8], g: u64, of: Sifted) -> Sifted
+fn sift_grant(ledger: &[u8], n: u64, k: usize, label: &[u8], day: u32, g: u64, of: Sifted) -> Sifted
     requires { ⌜ k < 64 ⌝ }
-    ensures { λ r. ⌜ ((f : Marks) → SiftedTo (countsAt (now (ledger .entry)) n (now (label .entry))) f g of → SiftedTo (countsAt (now (ledger .entry)) n (now (label .entry))) (λ s c. f s c && implies (countsAt (now (ledger .entry)) n (now (label .entry)) k) (keeps (marksOf (grantIn (now (ledger .entry)) k)) s c)) g r) ⌝ }
+    ensures { λ r. ⌜ ((f : Marks) → SiftedTo (countsAt (now (ledger .entry)) n (now (label .entry)) day) f g of → SiftedTo (countsAt (now (ledger .entry)) n (now (label .entry)) day) (λ s c. f s c && implies (countsAt (now (ledger .entry)) n (now (label .entry)) day k) (keeps (marksOf (grantIn (now (ledger .entry)) k)) s c)) g r) ⌝ }
 {
     let left = of.left;
     let before = of.known;
@@ -146,7 +146,7 @@ fn sift_grant(ledger: &[u8], n: u64, k: usize, label: &[u8], g: u64, of: Sifted)
     if words::none(gone) {
         return of;
     }
-    let known = counting::judge(ledger, n, k, label, before);
+    let known = counting::judge(ledger, n, k, label, day, before);
     let counts = counting::may_count(known, k);
     if !counts {
         return Sifted { left, known };
@@ -158,9 +158,9 @@ fn sift_grant(ledger: &[u8], n: u64, k: usize, label: &[u8], g: u64, of: Sifted)
 }
 
 // Takes away those that break a counting grant. It ends where none is left.
-fn sift(ledger: &[u8], n: u64, grants: usize, label: &[u8], g: u64, of: Sifted) -> Sifted
+fn sift(ledger: &[u8], n: u64, grants: usize, label: &[u8], day: u32, g: u64, of: Sifted) -> Sifted
     requires { ⌜ grants ≤ 64 ⌝ }
-    ensures { λ r. ⌜ ((f : Marks) → SiftedTo (countsAt (now (ledger .entry)) n (now (label .entry))) f g of → SiftedTo (countsAt (now (ledger .entry)) n (now (label .entry))) (λ s c. f s c && soundIn (now (ledger .entry)) grants (countedIn (now (ledger .entry)) n grants (now (label .entry))) s c) g r) ⌝ }
+    ensures { λ r. ⌜ ((f : Marks) → SiftedTo (countsAt (now (ledger .entry)) n (now (label .entry)) day) f g of → SiftedTo (countsAt (now (ledger .entry)) n (now (label .entry)) day) (λ s c. f s c && soundIn (now (ledger .entry)) grants (countedIn (now (ledger .entry)) n grants (now (label .entry)) day) s c) g r) ⌝ }
 {
     let mut sifted = of;
     let mut k: usize = 0;
@@ -169,7 +169,7 @@ fn sift(ledger: &[u8], n: u64, grants: usize, label: &[u8], g: u64, of: Sifted) 
         if words::none(left) {
             return sifted;
         }
-        sifted = sift_grant(ledger, n, k, label, g, sifted);
+        sifted = sift_grant(ledger, n, k, label, day, g, sifted);
         k += 1;
     }
     sifted
@@ -182,11 +182,12 @@ fn judge(
     n: u64,
     grants: usize,
     label: &[u8],
+    day: u32,
     p: &[u8],
     q: &[u8],
 ) -> Verdict
     requires { ⌜ grants ≤ 64 ⌝ }
-    ensures { λ r. ⌜ verdictOf r ≡ judgeOf relation (jobOf n) (soundIn (now (ledger .entry)) grants (countedIn (now (ledger .entry)) n grants (now (label .entry)))) (termIn (now (p .entry))) (termIn (now (q .entry))) ⌝ }
+    ensures { λ r. ⌜ verdictOf r ≡ judgeOf relation (jobOf n) (soundIn (now (ledger .entry)) grants (countedIn (now (ledger .entry)) n grants (now (label .entry)) day)) (termIn (now (p .entry))) (termIn (now (q .entry))) ⌝ }
 {
     let rows = words::row_count(n);
     let mut found = Verdict::Holds;
@@ -194,7 +195,7 @@ fn judge(
     let mut g: u64 = 0;
     while g < rows {
         let left = still(found, opposed(relation, n, p, q, g));
-        let sifted = sift(ledger, n, grants, label, g, Sifted { left, known });
+        let sifted = sift(ledger, n, grants, label, day, g, Sifted { left, known });
         let against = sifted.left;
         known = sifted.known;
         found = further(found, g, against);
@@ -211,7 +212,7 @@ fn judge(
 pub fn acts_statically(n: u64, p: &[u8], q: &[u8]) -> bool
     ensures { λ r. ⌜ r ≡ actsStatically (jobOf n) (termIn (now (p .entry))) (termIn (now (q .entry))) ⌝ }
 {
-    let verdict = judge(Relation::ActsFor, &p[..0], n, 0, &p[..0], p, q);
+    let verdict = judge(Relation::ActsFor, &p[..0], n, 0, &p[..0], 0, p, q);
     match verdict {
         Verdict::Holds => true,
         Verdict::Refuted(_, _) => false,
@@ -228,10 +229,14 @@ fn answered(verdict: Verdict) -> Answer
     }
 }
 
-// A question on bytes: the ledger's refusals, then p's, q's and the label's.
-fn ask(relation: Relation, ledger: &[u8], p: &[u8], q: &[u8], label: &[u8]) -> Answer
-    ensures { λ r. ⌜ answerOf r ≡ ask (relationOf relation) (now (ledger .entry)) (now (p .entry)) (now (q .entry)) (now (label .entry)) ⌝ }
+// A question on bytes and a day: 86 for the day, then the ledger's refusals, p's, q's and the label's.
+fn ask(relation: Relation, ledger: &[u8], p: &[u8], q: &[u8], label: &[u8], day: u32) -> Answer
+    ensures { λ r. ⌜ answerOf r ≡ ask (relationOf relation) (now (ledger .entry)) (now (p .entry)) (now (q .entry)) (now (label .entry)) day ⌝ }
 {
+    let real = dates::real_date(day);
+    if !real {
+        return Answer::Refused(86);
+    }
     let book = ledgers::read_ledger(ledger);
     let LedgerReading::Accepted { names, grants } = book else {
         return Answer::Refused(ledgers::ledger_refusal(book));
@@ -248,19 +253,19 @@ fn ask(relation: Relation, ledger: &[u8], p: &[u8], q: &[u8], label: &[u8]) -> A
     let TermReading::Accepted = third else {
         return Answer::Refused(40 + terms::term_refusal(third));
     };
-    answered(judge(relation, ledger, names, grants, label, p, q))
+    answered(judge(relation, ledger, names, grants, label, day, p, q))
 }
 
-// Does p act for q under the label?
-pub fn acts_for(ledger: &[u8], p: &[u8], q: &[u8], label: &[u8]) -> Answer
-    ensures { λ r. ⌜ answerOf r ≡ actsFor (now (ledger .entry)) (now (p .entry)) (now (q .entry)) (now (label .entry)) ⌝ }
+// Does p act for q under the label, on the day?
+pub fn acts_for(ledger: &[u8], p: &[u8], q: &[u8], label: &[u8], day: u32) -> Answer
+    ensures { λ r. ⌜ answerOf r ≡ actsFor (now (ledger .entry)) (now (p .entry)) (now (q .entry)) (now (label .entry)) day ⌝ }
 {
-    ask(Relation::ActsFor, ledger, p, q, label)
+    ask(Relation::ActsFor, ledger, p, q, label, day)
 }
 
-// Does p flow to q under the label?
-pub fn flows_to(ledger: &[u8], p: &[u8], q: &[u8], label: &[u8]) -> Answer
-    ensures { λ r. ⌜ answerOf r ≡ flowsTo (now (ledger .entry)) (now (p .entry)) (now (q .entry)) (now (label .entry)) ⌝ }
+// Does p flow to q under the label, on the day?
+pub fn flows_to(ledger: &[u8], p: &[u8], q: &[u8], label: &[u8], day: u32) -> Answer
+    ensures { λ r. ⌜ answerOf r ≡ flowsTo (now (ledger .entry)) (now (p .entry)) (now (q .entry)) (now (label .entry)) day ⌝ }
 {
-    ask(Relation::FlowsTo, ledger, p, q, label)
+    ask(Relation::FlowsTo, ledger, p, q, label, day)
 }

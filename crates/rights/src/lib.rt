@@ -39,29 +39,29 @@ fn checked_number(checked: Checked) -> u32
     }
 }
 
-// Does p act for q under the label?
+// Does p act for q under the label, on the day?
 #[no_mangle]
-pub extern "C" fn rights_acts_for(ledger: &[u8], p: &[u8], q: &[u8], label: &[u8]) -> u32
-    ensures { λ r. ⌜ r ≡ number (actsFor (now (ledger .entry)) (now (p .entry)) (now (q .entry)) (now (label .entry))) ⌝ }
+pub extern "C" fn rights_acts_for(ledger: &[u8], p: &[u8], q: &[u8], label: &[u8], day: u32) -> u32
+    ensures { λ r. ⌜ r ≡ number (actsFor (now (ledger .entry)) (now (p .entry)) (now (q .entry)) (now (label .entry)) day) ⌝ }
 {
-    answer_number(questions::acts_for(ledger, p, q, label))
+    answer_number(questions::acts_for(ledger, p, q, label, day))
 }
 
-// Does p flow to q under the label?
+// Does p flow to q under the label, on the day?
 #[no_mangle]
-pub extern "C" fn rights_flows_to(ledger: &[u8], p: &[u8], q: &[u8], label: &[u8]) -> u32
-    ensures { λ r. ⌜ r ≡ number (flowsTo (now (ledger .entry)) (now (p .entry)) (now (q .entry)) (now (label .entry))) ⌝ }
+pub extern "C" fn rights_flows_to(ledger: &[u8], p: &[u8], q: &[u8], label: &[u8], day: u32) -> u32
+    ensures { λ r. ⌜ r ≡ number (flowsTo (now (ledger .entry)) (now (p .entry)) (now (q .entry)) (now (label .entry)) day) ⌝ }
 {
-    answer_number(questions::flows_to(ledger, p, q, label))
+    answer_number(questions::flows_to(ledger, p, q, label, day))
 }
 
-// Writes the extract of the ledger under the label.
+// Writes the extract of the ledger under the label, on the day.
 #[no_mangle]
-pub extern "C" fn rights_extract(ledger: &[u8], label: &[u8], buffer: &mut [u8]) -> u32
-    ensures answered { λ r. ⌜ r ≡ number (extract (now (ledger .entry)) (now (label .entry)) (now (buffer .entry)) .answer) ⌝ }
-    ensures written { λ _. ⌜ now (buffer .exit) ≡ extract (now (ledger .entry)) (now (label .entry)) (now (buffer .entry)) .buffer ⌝ }
+pub extern "C" fn rights_extract(ledger: &[u8], label: &[u8], day: u32, buffer: &mut [u8]) -> u32
+    ensures answered { λ r. ⌜ r ≡ number (extract (now (ledger .entry)) (now (label .entry)) day (now (buffer .entry)) .answer) ⌝ }
+    ensures written { λ _. ⌜ now (buffer .exit) ≡ extract (now (ledger .entry)) (now (label .entry)) day (now (buffer .entry)) .buffer ⌝ }
 {
-    let extracted = extracts::extract(ledger, label, buffer);
+    let extracted = extracts::extract(ledger, label, day, buffer);
     match extracted {
         Extracted::Written => 0,
         Extracted::Refused(refusal) => 131072 + refusal as u32,
@@ -81,10 +81,15 @@ pub extern "C" fn rights_short_form(n: u64, term: &[u8], buffer: &mut [u8]) -> u
     }
 }
 
-// Does every step of the derivation follow by its rule?
+// Does every step of the derivation follow by its rule, on the day?
 #[no_mangle]
-pub extern "C" fn rights_check_derivation(derivation: &[u8], ledger: &[u8], label: &[u8]) -> u32
-    ensures { λ r. ⌜ r ≡ number (checkDerivation (now (derivation .entry)) (now (ledger .entry)) (now (label .entry))) ⌝ }
+pub extern "C" fn rights_check_derivation(
+    derivation: &[u8],
+    ledger: &[u8],
+    label: &[u8],
+    day: u32,
+) -> u32
+    ensures { λ r. ⌜ r ≡ number (checkDerivation (now (derivation .entry)) (now (ledger .entry)) (now (label .entry)) day) ⌝ }
 {
-    checked_number(derivations::check_derivation(derivation, ledger, label))
+    checked_number(derivations::check_derivation(derivation, ledger, label, day))
 }

@@ -44,9 +44,9 @@ sound-in bytes grants l f is count s c = first grants (omega arith) ∙ rw (take
     first zero b = sym (sound-none f s c (l .grants))
     first (suc k) b = ap₂ _&&_ (first k (omega arith)) (each k (omega arith)) ∙ sym (sound-more f s c (l .grants) k noGrant (omega arith))
 
--- with the bits of the grants that count under a label, these are the sound coalitions
-pub sound-counted : (bytes label : List ℕ) (n grants counted : ℕ) (l : Ledger) (L : Term) → LedgerOf bytes n grants l → readTerm n label ≡ accepted L
-    → counted ≡ countedIn bytes n grants label → (s : Side) (c : ℕ) → soundIn bytes grants counted s c ≡ soundUnder l (under n L) s c
+-- with the bits of the grants that count under a label on a day, these are the sound coalitions
+pub sound-counted : (bytes label : List ℕ) (day n grants counted : ℕ) (l : Ledger) (L : Term) → LedgerOf bytes n grants l → readTerm n label ≡ accepted L
+    → counted ≡ countedIn bytes n grants label day → (s : Side) (c : ℕ) → soundIn bytes grants counted s c ≡ soundUnder l (under n L day) s c
 unfolding soundUnder
-sound-counted bytes label n grants counted l L of e is s c =
-    rw (is ∙ counted-in bytes n grants l of L label e) (sound-in bytes grants l (countsUnder (under n L)) (of .is) (of .count) s c)
+sound-counted bytes label day n grants counted l L of e is s c =
+    rw (is ∙ counted-in bytes n grants l of L label day e) (sound-in bytes grants l (countsUnder (under n L day)) (of .is) (of .count) s c)

@@ -1,5 +1,6 @@
--- What fits the figure of a number for C. Assumes nothing: this is a definition.
-use Prim.Native.Nat.{_<_}
+-- What the numbers of the exports are. Assumes nothing: these are definitions.
+use Prim.Native.Nat.{ℕ, _+_, _*_, _<_}
+use Rattle.model.specs.Readings.{Reading, accepted, refused}
 use Rattle.notation.specs.declared.Noted.{Noted}
 use Rattle.notation.specs.declared.Noted.the-variants.{Written, Refused}
 
@@ -7,3 +8,8 @@ use Rattle.notation.specs.declared.Noted.the-variants.{Written, Refused}
 abbrev pub Fits : Noted → Type 0
 Fits (Written k) = k < 65536
 Fits (Refused r) = Unit {0}
+
+-- the date that was reached, or kind 2 and the refusal
+abbrev pub sumNumber : Reading ℕ → ℕ
+sumNumber (accepted date) = date
+sumNumber (refused r) = 2 * 65536 + r

@@ -1,11 +1,13 @@
 // Exports for tests alone: calls of document 02 that the C program does not get. Each asks nothing of its caller, calls one proved function, and gives
 // its answer as one number, as the entry points of `rights` do.
+use dates::Sum;
 use notation::Noted;
 ghost use mathlib.Core.Path.{_≡_};
 ghost use Rattle.model.specs.Answers.{number};
+ghost use Rattle.model.specs.Dates.{addDays};
 ghost use Rattle.model.specs.Notation.{readText, writeTerm};
 ghost use Rattle.notation.specs.Reading.{notedOf};
-ghost use Rattle.trials.specs.Figures.{Fits};
+ghost use Rattle.trials.specs.Figures.{Fits, sumNumber};
 
 // The one number that the answer is.
 fn noted_number(noted: Noted) -> u32
@@ -34,4 +36,16 @@ pub extern "C" fn trials_write_term(n: u64, term: &[u8], text: &mut [u8]) -> u32
     ensures written { λ _. ⌜ now (text .exit) ≡ writeTerm n (now (term .entry)) (now (text .entry)) .buffer ⌝ }
 {
     noted_number(notation::write_term(n, term, text))
+}
+
+// Adds 0 to 366 days to a date: the number is the date, which no refusal's number is.
+#[no_mangle]
+pub extern "C" fn trials_add_days(date: u32, count: u32) -> u32
+    ensures { λ r. ⌜ r ≡ sumNumber (addDays date count) ⌝ }
+{
+    let sum = dates::add_days(date, count);
+    match sum {
+        Sum::Date(date) => date,
+        Sum::Refused(refusal) => 131072 + refusal as u32,
+    }
 }

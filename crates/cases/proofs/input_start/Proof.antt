@@ -1,4 +1,4 @@
--- `cases::input_start` meets its contract. A length is below 2^32, so that five of them and 48 fit. Assumes nothing.
+-- `cases::input_start` meets its contract. A length is below 2^32, so that five of them and 52 fit. Assumes nothing.
 use Prim.Native.Nat.{_+_, _*_, _-_, _≤_}
 use native.Mathlib.Omega.{arith}
 use mathlib.Core.Path.{_≡_}
@@ -9,7 +9,7 @@ use Rattle.cases.proofs.input_start.Statement.{statement}
 use Rattle.cases.proofs.input_start.Tie as tie
 
 abbrev Inv-loop : tie.InvT-loop
-Inv-loop unpacked k at₀ i₀ at i = (i ≤ k) × (at ≤ 48 + i * 4294967296) × (at ≡ inputStart i unpacked)
+Inv-loop unpacked k at₀ i₀ at i = (i ≤ k) × (at ≤ 52 + i * 4294967296) × (at ≡ inputStart i unpacked)
 
 abbrev μ-loop : tie.MeasureT-loop
 μ-loop unpacked k at₀ i₀ at i = k - i

@@ -14,9 +14,12 @@ weight-requires c κs = search needs
 two-bytes-requires : tie.Need-two-bytes-requires
 two-bytes-requires c κs = search needs
 
+cast-check : tie.Need-cast-check
+cast-check c = search needs
+
 returns-2 : tie.Need-returns-2
 unfolding checked checkOf
 returns-2 c = simp (eq-eqb _ _ (c .before .before .if1 .left)) (rw (c .two-bytes .ensures, c .before .weight .ensures))
 
 pub block-check-spec : {M : Type 1} → statement M
-block-check-spec = tie.close (tie.spec returns weight-requires two-bytes-requires returns-2)
+block-check-spec = tie.close (tie.spec returns weight-requires two-bytes-requires cast-check returns-2)

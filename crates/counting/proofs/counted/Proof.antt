@@ -11,10 +11,10 @@ use Rattle.counting.proofs.counted.Statement.{statement}
 use Rattle.counting.proofs.counted.Tie as tie
 
 abbrev Inv-loop : tie.InvT-loop
-Inv-loop ledger n grants label counted₀ k₀ counted k = (k ≤ grants) × (grants ≤ 64) × (counted ≡ packed (countsIn ledger n grants label) k (64 - k))
+Inv-loop ledger n grants label day counted₀ k₀ counted k = (k ≤ grants) × (grants ≤ 64) × (counted ≡ packed (countsIn ledger n grants label day) k (64 - k))
 
 abbrev μ-loop : tie.MeasureT-loop
-μ-loop ledger n grants label counted₀ k₀ counted k = k
+μ-loop ledger n grants label day counted₀ k₀ counted k = k
 
 returns : tie.Need-returns Inv-loop μ-loop
 unfolding countedIn
@@ -23,7 +23,7 @@ returns c = rw (lt-ltb 64 _ (c .if1 .taken))
 loop-holds : tie.Need-loop-holds Inv-loop μ-loop
 loop-holds c =
     let a = c .before .before .before .args in
-    (omega arith, omega arith, bits-none (countsIn (a .ledger .now) (a .n) (a .grants) (a .label .now)) _ (λ k l. rw (le-ltb k (a .grants) l)))
+    (omega arith, omega arith, bits-none (countsIn (a .ledger .now) (a .n) (a .grants) (a .label .now) (a .day)) _ (λ k l. rw (le-ltb k (a .grants) l)))
 
 sub-k : tie.Need-sub-k Inv-loop μ-loop
 sub-k c = omega arith
@@ -45,7 +45,7 @@ loop-again c =
     let below : l .loop .k - 1 < a .grants = omega arith in (
       omega arith,
       i .1,
-      bits-more (countsIn (a .ledger .now) (a .n) (a .grants) (a .label .now)) (l .loop .k) _ _ (c .before .loop-test .taken) (omega arith) (i .2)
+      bits-more (countsIn (a .ledger .now) (a .n) (a .grants) (a .label .now) (a .day)) (l .loop .k) _ _ (c .before .loop-test .taken) (omega arith) (i .2)
           (c .counts .ensures ∙ rw (lt-ltb (l .loop .k - 1) (a .grants) below)),
     )
 

@@ -29,7 +29,7 @@ may-count-requires c κs = search needs
 returns : tie.Need-returns
 returns c =
     let a = c .before .before .before .before .args in
-    judged-never (a .k) (a .known) (countsAt (a .ledger .now) (a .n) (a .label .now) (a .k)) (sym (c .before .may-count .ensures) ∙ not-true _ (c .if1 .taken))
+    judged-never (a .k) (a .known) (countsAt (a .ledger .now) (a .n) (a .label .now) (a .day) (a .k)) (sym (c .before .may-count .ensures) ∙ not-true _ (c .if1 .taken))
 
 shr-if2 : tie.Need-shr-if2
 shr-if2 c = below (c .before)
@@ -38,7 +38,7 @@ returns-2 : tie.Need-returns-2
 returns-2 c =
     let e = c .before .before in
     let a = start e .args in
-    judged-before (a .k) (a .known) (may e) (countsAt (a .ledger .now) (a .n) (a .label .now) (a .k)) (bit-off _ _ (c .if2 .taken))
+    judged-before (a .k) (a .known) (may e) (countsAt (a .ledger .now) (a .n) (a .label .now) (a .day) (a .k)) (bit-off _ _ (c .if2 .taken))
 
 shl-bit : tie.Need-shl-bit
 shl-bit c = below (c .before .before)
@@ -58,8 +58,8 @@ returns-3 c =
     let a = start e .args in
     judged-yes (a .k) (a .known) (may e) _ (one-bit (a .k) (below e)) (bit-on _ _ (s .before .if2 .left)) _ (sym (c .before .counts .ensures) ∙ c .if3 .taken)
 
-sub-t11 : tie.Need-sub-t11
-sub-t11 c =
+sub-t12 : tie.Need-sub-t12
+sub-t12 c =
     let e = c .before .before .before .before .before .before in
     le-trans (le-of-eq (one-bit _ (below e))) (member-le (start e .args .k) _ (may e))
 
@@ -83,5 +83,5 @@ judge-spec =
     sub-unjudged
     counts-requires
     returns-3
-    sub-t11
+    sub-t12
     returns-4)

@@ -6,12 +6,12 @@ use mathlib.Core.Path.{sym, _∙_}
 use mathlib.Core.Bool.{true≢false, false≢true}
 use borrow.Author.Tests.{not-true, not-false}
 use Rattle.model.specs.Coalitions.{mark}
-use Rattle.model.specs.Grants.{marksOf, countsUnder}
+use Rattle.model.specs.Grants.{marksOf}
 use Rattle.words.specs.FourWords.{RowAt}
 use Rattle.words.specs.Evaluation.{jobOf, ClearTo}
 use Rattle.words.proofs.Searches.{clear-more, clear-not}
 use Rattle.counting.specs.Counted.{grantIn, barsAt}
-use Rattle.counting.proofs.Bars.{counts-bars}
+use Rattle.counting.proofs.Bars.{heard-bars}
 use Rattle.counting.proofs.Tests.{marked-job}
 use Rattle.counting.proofs.rows_clear.Statement.{statement}
 use Rattle.counting.proofs.rows_clear.Tie as tie
@@ -41,12 +41,11 @@ empty-requires : tie.Need-empty-requires Inv-loop μ-loop
 empty-requires c κs = tt
 
 returns : tie.Need-returns Inv-loop μ-loop
-unfolding countsUnder
 returns c =
     let a = c .before .before .before .before .before .before .before .args in
     record {
       clear = λ e. absurd (false≢true e);
-      barred = λ _. counts-bars (jobOf (a .n)) _ (marksOf (grantIn (a .ledger .now) (a .k)))
+      barred = λ _. heard-bars (jobOf (a .n)) _ (marksOf (grantIn (a .ledger .now) (a .k)))
           ∙ sym (clear-not (jobOf (a .n)) (barsAt (a .ledger .now) (a .label .now) (a .k)) _ _ (row (c .before .before)) (sym (c .before .empty .ensures) ∙ not-true _ (c .if1 .taken)));
     }
 

@@ -26,7 +26,7 @@ none Accepted part (inr e) = absurd (omega arith)
 none (Refused r) part h = refl
 none (RefusedAt k r) part h = refl
 
-accepts : (c : tie.After-enum-told) → let a = c .before .before .before .before .before .before .args in checkDerivation (a .derivation .now) (a .ledger .now) (a .label .now) ≡ Yes
+accepts : (c : tie.After-enum-told) → let a = c .before .before .before .before .before .before .args in checkDerivation (a .derivation .now) (a .ledger .now) (a .label .now) (a .day) ≡ Yes
 accepts c = sym (c .before .before .check-derivation .ensures) ∙ ap checkedOf (c .enum-told .given .1)
 
 -- a step before the end has 136 bytes
@@ -47,7 +47,7 @@ slice-aggregate-result c = search needs
 returns : tie.Need-returns
 returns c =
     let check = c .before .before in
-    sym (quote-refused _ _ _ _ (checkedOf (check .check-derivation .result)) (sym (check .check-derivation .ensures)) (λ part. none (check .check-derivation .result) part (c .before .match .keys2)))
+    sym (quote-refused _ _ _ _ _ (checkedOf (check .check-derivation .result)) (sym (check .check-derivation .ensures)) (λ part. none (check .check-derivation .result) part (c .before .match .keys2)))
 
 slice-aggregate-result-2 : tie.Need-slice-aggregate-result-2
 slice-aggregate-result-2 c = search needs
@@ -55,7 +55,7 @@ slice-aggregate-result-2 c = search needs
 returns-2 : tie.Need-returns-2
 returns-2 c =
     let t = c .before .before in
-    sym (quote-told _ _ _ _ _ _ _ (accepts t) refl (le-ltb _ _ (c .before .if1 .taken)) refl)
+    sym (quote-told _ _ _ _ _ _ _ _ (accepts t) refl (le-ltb _ _ (c .before .if1 .taken)) refl)
 
 step-at-requires : tie.Need-step-at-requires
 step-at-requires c κs = search needs
@@ -69,7 +69,7 @@ slice-aggregate-result-3 c = search needs
 returns-3 : tie.Need-returns-3
 returns-3 c =
     let s = c .before .before .before in
-    sym (quote-told _ _ _ _ _ _ _ (accepts (s .before .before)) (s .step-at .ensures) (lt-ltb _ _ (s .before .if1 .left)) (ne-eqb _ _ (c .before .if2 .taken)))
+    sym (quote-told _ _ _ _ _ _ _ _ (accepts (s .before .before)) (s .step-at .ensures) (lt-ltb _ _ (s .before .if1 .left)) (ne-eqb _ _ (c .before .if2 .taken)))
 
 shared-slice-read-grant-block : tie.Need-shared-slice-read-grant-block
 shared-slice-read-grant-block c = omega (arith, long (c .before .before .before))
@@ -83,7 +83,7 @@ grant-block-requires c κs = search needs
 returns-4 : tie.Need-returns-4
 returns-4 c =
     let s = c .before .before .before .before in
-    c .grant-block .ensures ∙ sym (quote-told _ _ _ _ _ _ _ (accepts (s .before .before)) (s .step-at .ensures) (lt-ltb _ _ (s .before .if1 .left)) (eq-eqb _ _ (c .before .before .if2 .left)))
+    c .grant-block .ensures ∙ sym (quote-told _ _ _ _ _ _ _ _ (accepts (s .before .before)) (s .step-at .ensures) (lt-ltb _ _ (s .before .if1 .left)) (eq-eqb _ _ (c .before .before .if2 .left)))
 
 pub quote-spec : {M : Type 1} → statement M
 quote-spec =

@@ -44,8 +44,24 @@ term-form-requires-3 : tie.Need-term-form-requires-3
 term-form-requires-3 c κs = search needs
 
 returns-5 : tie.Need-returns-5
-returns-5 c =
-    let q = c .before in
+returns-5 c = simp (grant-fields, sym (c .before .term-form3 .ensures) ∙ not-true (c .before .term-form3 .result) (c .if5 .taken), and-false)
+
+sub-filler-2 : tie.Need-sub-filler-2
+sub-filler-2 c = search needs
+
+part-filler-start-2 : tie.Need-part-filler-start-2
+part-filler-start-2 c = search needs
+
+part-filler-end-2 : tie.Need-part-filler-end-2
+part-filler-end-2 c = search needs
+
+filler-requires-2 : tie.Need-filler-requires-2
+filler-requires-2 c κs = search needs
+
+returns-6 : tie.Need-returns-6
+returns-6 c =
+    let label = c .before .before in
+    let q = label .before .before in
     let p = q .before .before in
     let unused = p .before .before in
     let kind = unused .before .before .before in
@@ -55,7 +71,8 @@ returns-5 c =
       sym (unused .before .filler .ensures) ∙ not-false (unused .before .filler .result) (unused .if2 .left),
       sym (p .before .term-form .ensures) ∙ not-false (p .before .term-form .result) (p .if3 .left),
       sym (q .before .term-form2 .ensures) ∙ not-false (q .before .term-form2 .result) (q .if4 .left),
-    ) (c .term-form3 .ensures)
+      sym (label .before .term-form3 .ensures) ∙ not-false (label .before .term-form3 .result) (label .if5 .left),
+    ) (c .filler2 .ensures)
 
 pub grant-form-spec : {M : Type 1} → statement M
 grant-form-spec =
@@ -73,4 +90,9 @@ grant-form-spec =
     term-form-requires-2
     returns-4
     term-form-requires-3
-    returns-5)
+    returns-5
+    sub-filler-2
+    part-filler-start-2
+    part-filler-end-2
+    filler-requires-2
+    returns-6)

@@ -21,7 +21,7 @@ enum-told : tie.Need-enum-told
 enum-told c = search needs
 
 returns : tie.Need-returns
-returns c = book-ledger _ _ _ _ (c .before .before .read-ledger .ensures) (c .enum-told .given .1)
+returns c day = book-ledger _ _ day _ _ (c .before .before .read-ledger .ensures) (c .enum-told .given .1)
 
 read-term-requires : tie.Need-read-term-requires
 read-term-requires c κs = search needs
@@ -39,14 +39,14 @@ add-t8 : tie.Need-add-t8
 add-t8 c = omega (arith, refusal-small _ _ _ _ (c .before .before .before .read-term .ensures) (c .term-refusal .ensures))
 
 returns-2 : tie.Need-returns-2
-returns-2 c =
-    book-label _ _ _ _ _ (book (c .before .before .before .before))
+returns-2 c day =
+    book-label _ _ day _ _ _ (book (c .before .before .before .before))
     (term-refused _ _ _ _ (c .before .before .before .read-term .ensures) (c .term-refusal .ensures) _ (c .before .enum-told3 .given .1))
 
 returns-3 : tie.Need-returns-3
-returns-3 c =
+returns-3 c day =
     let t = accepted-term _ _ (sym (c .before .before .read-term .ensures) ∙ c .enum-told2 .given .1) in
-    book-both _ _ _ _ (t .term) (book (c .before .before .before)) (t .is)
+    book-both _ _ day _ _ (t .term) (book (c .before .before .before)) (t .is)
 
 pub read-book-spec : {M : Type 1} → statement M
 read-book-spec =

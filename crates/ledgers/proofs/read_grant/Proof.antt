@@ -1,12 +1,11 @@
--- `ledgers::read_grant` meets its contract: the form, and then one term after another. Assumes nothing.
+-- `ledgers::read_grant` meets its contract: the form, one term after another, and then the days. Assumes nothing.
 use mathlib.Core.Path.{_≡_, sym, _∙_}
 use borrow.Author.Tests.{not-true, not-false}
 use Rattle.model.specs.Terms.{readTerm}
-use Rattle.model.specs.Ledgers.{qBytes, labelBytes, readGrant}
+use Rattle.model.specs.Ledgers.{qBytes, labelBytes, firstDay, lastDay, readGrant}
 use Rattle.terms.specs.Readings.{termReading}
 use Rattle.terms.specs.declared.TermReading.{TermReading}
-use Rattle.ledgers.specs.Readings.{grantReading}
-use Rattle.ledgers.specs.declared.GrantReading.the-variants.{Accepted}
+use Rattle.ledgers.specs.Readings.{grantReading, daysReading}
 use Rattle.ledgers.proofs.Readers.{onTerm, grant-answer}
 use borrow.Author.Needs.{needs}
 use Rattle.ledgers.proofs.read_grant.Statement.{statement}
@@ -17,7 +16,7 @@ start c = c .before .before .before .before
 
 -- after each of the three terms, its answer being s: the answer for the block
 after-p : (c : tie.After-read-at) (s : TermReading) → c .read-at .result ≡ s → let a = start c .args in
-    let b = a .block .now in grantReading (readGrant (a .n) b) ≡ onTerm s (onTerm (termReading (readTerm (a .n) (qBytes b))) (onTerm (termReading (readTerm (a .n) (labelBytes b))) Accepted))
+    let b = a .block .now in grantReading (readGrant (a .n) b) ≡ onTerm s (onTerm (termReading (readTerm (a .n) (qBytes b))) (onTerm (termReading (readTerm (a .n) (labelBytes b))) (daysReading (firstDay b) (lastDay b))))
 after-p c s e =
     let form = c .before in
     let a = start c .args in
@@ -25,11 +24,11 @@ after-p c s e =
     ∙ rw (sym (c .read-at .ensures) ∙ e)
 
 after-q : (c : tie.After-read-at2) (s : TermReading) → c .read-at2 .result ≡ s → let a = start (c .before .before .before) .args in
-    let b = a .block .now in grantReading (readGrant (a .n) b) ≡ onTerm s (onTerm (termReading (readTerm (a .n) (labelBytes b))) Accepted)
+    let b = a .block .now in grantReading (readGrant (a .n) b) ≡ onTerm s (onTerm (termReading (readTerm (a .n) (labelBytes b))) (daysReading (firstDay b) (lastDay b)))
 after-q c s e = after-p (c .before .before .before) _ (c .before .enum-told .given .1) ∙ rw (sym (c .read-at2 .ensures) ∙ e)
 
 after-label : (c : tie.After-read-at3) (s : TermReading) → c .read-at3 .result ≡ s → let a = start (c .before .before .before .before .before .before) .args in
-    grantReading (readGrant (a .n) (a .block .now)) ≡ onTerm s Accepted
+    grantReading (readGrant (a .n) (a .block .now)) ≡ onTerm s (daysReading (firstDay (a .block .now)) (lastDay (a .block .now)))
 after-label c s e = after-q (c .before .before .before) _ (c .before .enum-told3 .given .1) ∙ rw (sym (c .read-at3 .ensures) ∙ e)
 
 grant-form-requires : tie.Need-grant-form-requires
@@ -75,8 +74,11 @@ enum-told-6 c = search needs
 returns-4 : tie.Need-returns-4
 returns-4 c = sym (after-label (c .before .before) _ (c .enum-told6 .given .1))
 
+read-days-requires : tie.Need-read-days-requires
+read-days-requires c κs = search needs
+
 returns-5 : tie.Need-returns-5
-returns-5 c = sym (after-label (c .before .before) _ (c .enum-told5 .given .1))
+returns-5 c = c .read-days .ensures ∙ sym (after-label (c .before .before .before) _ (c .before .enum-told5 .given .1))
 
 pub read-grant-spec : {M : Type 1} → statement M
 read-grant-spec =
@@ -96,4 +98,5 @@ read-grant-spec =
     enum-told-5
     enum-told-6
     returns-4
+    read-days-requires
     returns-5)

@@ -49,7 +49,7 @@ returns-3 c =
     let least = most .before in
     let a = least .before .before .before .args in
     let len = getD (a .block .now) (a .k) 0 in
-    let rest : a .at + a .size - (a .at + len) ≡ a .size - len = omega arith in
+    let rest : a .at + 64 - (a .at + len) ≡ 64 - len = omega arith in
     simp (le-leb _ _ (least .if1 .left), le-leb _ _ (most .if2 .left)) (c .filler .ensures ∙ ap (λ (size : ℕ). zeros (field (a .at + len) size (a .block .now))) rest)
 
 pub term-form-spec : {M : Type 1} → statement M

@@ -21,14 +21,14 @@ use Rattle.questions.proofs.judge.Statement.{statement}
 use Rattle.questions.proofs.judge.Tie as tie
 
 abbrev Inv-loop : tie.InvT-loop
-Inv-loop relation ledger n grants label p q rows found₀ known₀ g₀ found known g =
+Inv-loop relation ledger n grants label day p q rows found₀ known₀ g₀ found known g =
     (rows ≡ rowCount n) × (g ≤ rows)
-    × (lowest (refutersOf relation n (soundIn ledger grants (countedIn ledger n grants label)) (termIn p) (termIn q) confidentiality) (256 * g) ≡ nowhere)
-    × (verdictOf found ≡ foundTo (refutersOf relation n (soundIn ledger grants (countedIn ledger n grants label)) (termIn p) (termIn q)) (256 * g))
-    × KnownOf (countsAt ledger n label) known
+    × (lowest (refutersOf relation n (soundIn ledger grants (countedIn ledger n grants label day)) (termIn p) (termIn q) confidentiality) (256 * g) ≡ nowhere)
+    × (verdictOf found ≡ foundTo (refutersOf relation n (soundIn ledger grants (countedIn ledger n grants label day)) (termIn p) (termIn q)) (256 * g))
+    × KnownOf (countsAt ledger n label day) known
 
 abbrev μ-loop : tie.MeasureT-loop
-μ-loop relation ledger n grants label p q rows found₀ known₀ g₀ found known g = rows - g
+μ-loop relation ledger n grants label day p q rows found₀ known₀ g₀ found known g = rows - g
 
 abbrev start : tie.At-loop Inv-loop μ-loop → tie.Start Inv-loop μ-loop
 start o = o .before .before .before .before .before .before .before
@@ -37,7 +37,7 @@ start o = o .before .before .before .before .before .before .before
 abbrev sound : tie.At-loop Inv-loop μ-loop → Marks
 sound o =
     let a = start o .args in
-    soundIn (a .ledger .now) (a .grants) (countedIn (a .ledger .now) (a .n) (a .grants) (a .label .now))
+    soundIn (a .ledger .now) (a .grants) (countedIn (a .ledger .now) (a .n) (a .grants) (a .label .now) (a .day))
 
 abbrev refuters : tie.At-loop Inv-loop μ-loop → Marks
 refuters o =
@@ -49,7 +49,7 @@ few c = omega (arith, c .before .loop .inv .0, rows-few (start (c .before) .args
 
 -- what is left of row g
 sifted : (c : tie.After-sift Inv-loop μ-loop) → let o = c .before .before .before .before in let a = start o .args in
-    SiftedTo (countsAt (a .ledger .now) (a .n) (a .label .now)) (λ s c. stillOf (o .loop .found) (opposedOf (a .relation) (a .n) (termIn (a .p .now)) (termIn (a .q .now))) s c && sound o s c) (o .loop .g) (c .sift .result)
+    SiftedTo (countsAt (a .ledger .now) (a .n) (a .label .now) (a .day)) (λ s c. stillOf (o .loop .found) (opposedOf (a .relation) (a .n) (termIn (a .p .now)) (termIn (a .q .now))) s c && sound o s c) (o .loop .g) (c .sift .result)
 sifted c =
     let o = c .before .before .before .before in
     c .sift .ensures _ record {
@@ -81,7 +81,7 @@ unknown-requires c κs = tt
 loop-holds : tie.Need-loop-holds Inv-loop μ-loop
 loop-holds c =
     let a = c .before .before .before .before .before .before .args in
-    let R : Marks = refutersOf (a .relation) (a .n) (soundIn (a .ledger .now) (a .grants) (countedIn (a .ledger .now) (a .n) (a .grants) (a .label .now))) (termIn (a .p .now)) (termIn (a .q .now)) in
+    let R : Marks = refutersOf (a .relation) (a .n) (soundIn (a .ledger .now) (a .grants) (countedIn (a .ledger .now) (a .n) (a .grants) (a .label .now) (a .day))) (termIn (a .p .now)) (termIn (a .q .now)) in
     (c .before .row-count .ensures, omega arith, lowest-zero (R confidentiality), found-none R, rw (c .unknown .ensures) (known-nothing _))
 
 opposed-requires : tie.Need-opposed-requires Inv-loop μ-loop

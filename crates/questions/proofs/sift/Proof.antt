@@ -11,12 +11,12 @@ use Rattle.questions.proofs.sift.Statement.{statement}
 use Rattle.questions.proofs.sift.Tie as tie
 
 abbrev Inv-loop : tie.InvT-loop
-Inv-loop ledger n grants label g sifted₀ k₀ sifted k =
+Inv-loop ledger n grants label day g sifted₀ k₀ sifted k =
     (k ≤ grants) × (grants ≤ 64)
-    × ((f : Marks) → SiftedTo (countsAt ledger n label) f g sifted₀ → SiftedTo (countsAt ledger n label) (keepFirst ledger (countedIn ledger n grants label) f g k) g sifted)
+    × ((f : Marks) → SiftedTo (countsAt ledger n label day) f g sifted₀ → SiftedTo (countsAt ledger n label day) (keepFirst ledger (countedIn ledger n grants label day) f g k) g sifted)
 
 abbrev μ-loop : tie.MeasureT-loop
-μ-loop ledger n grants label g sifted₀ k₀ sifted k = grants - k
+μ-loop ledger n grants label day g sifted₀ k₀ sifted k = grants - k
 
 loop-holds : tie.Need-loop-holds Inv-loop μ-loop
 loop-holds c = (omega arith, c .before .before .pre, λ f h. record { rows = keep-none _ _ f _ _ (h .rows); so = h .so })
@@ -43,7 +43,7 @@ loop-again : tie.Need-loop-again Inv-loop μ-loop
 loop-again c =
     let o = c .before .before .before .before .before in
     let i = o .loop .inv in
-    (omega arith, i .1, λ f h. sift-more _ _ _ _ _ f _ _ (i .1) (omega arith) (c .sift-grant .ensures _ (i .2 f h)))
+    (omega arith, i .1, λ f h. sift-more _ _ _ _ _ _ f _ _ (i .1) (omega arith) (c .sift-grant .ensures _ (i .2 f h)))
 
 returns-2 : tie.Need-returns-2 Inv-loop μ-loop
 returns-2 c f h =

@@ -19,7 +19,7 @@ may-count-requires c κs = search needs
 returns : tie.Need-returns
 returns c f h =
     let a = c .before .before .before .before .before .before in
-    let counts = countsAt (a .args .ledger .now) (a .args .n) (a .args .label .now) in
+    let counts = countsAt (a .args .ledger .now) (a .args .n) (a .args .label .now) (a .args .day) in
     sift-closed counts (a .args .k) (a .pre) (grantIn (a .args .ledger .now) (a .args .k)) f _ _ h (sym (c .before .may-count .ensures) ∙ not-true _ (c .if1 .taken))
 
 broken-requires : tie.Need-broken-requires
@@ -31,7 +31,7 @@ none-requires c κs = search needs
 returns-2 : tie.Need-returns-2
 returns-2 c f h =
     let a = c .before .before .before .before .before .before .before .before .before in
-    let counts = countsAt (a .args .ledger .now) (a .args .n) (a .args .label .now) in
+    let counts = countsAt (a .args .ledger .now) (a .args .n) (a .args .label .now) (a .args .day) in
     sift-kept counts (a .args .k) (a .pre) (grantIn (a .args .ledger .now) (a .args .k)) f _ _ h _ (c .before .before .broken .ensures f (h .rows)) (sym (c .before .none .ensures) ∙ c .if2 .taken)
 
 judge-requires : tie.Need-judge-requires
@@ -45,7 +45,7 @@ returns-3 c f h =
     let j = c .before .before in
     let d = j .before .before .before in
     let a = d .before .before .before .before .before .before .before in
-    let counts = countsAt (a .args .ledger .now) (a .args .n) (a .args .label .now) in
+    let counts = countsAt (a .args .ledger .now) (a .args .n) (a .args .label .now) (a .args .day) in
     sift-idle counts (a .args .k) (a .pre) (grantIn (a .args .ledger .now) (a .args .k)) f _ _ h _ (d .broken .ensures f (h .rows)) (may (d .before)) _ (j .judge .ensures)
     (sym (c .before .may-count2 .ensures) ∙ not-true _ (c .if3 .taken))
 
@@ -57,7 +57,7 @@ returns-4 c f h =
     let j = c .before .before .before in
     let d = j .before .before .before in
     let a = d .before .before .before .before .before .before .before in
-    let counts = countsAt (a .args .ledger .now) (a .args .n) (a .args .label .now) in
+    let counts = countsAt (a .args .ledger .now) (a .args .n) (a .args .label .now) (a .args .day) in
     sift-gone counts (a .args .k) (a .pre) (grantIn (a .args .ledger .now) (a .args .k)) f _ _ h _ (d .broken .ensures f (h .rows)) (may (d .before)) _ (j .judge .ensures) _
     (sym (c .before .before .may-count2 .ensures) ∙ not-false _ (c .before .if3 .left)) (c .rest .ensures)
 

@@ -1,0 +1,5 @@
+-- The theorems' proofs; a function's own proof only cites them.
+pub mod Fewest
+pub mod Language
+pub mod Dating
+pub mod Tried

@@ -1,0 +1,75 @@
+-- The cases of the requests, by evaluation of the definitions. Assumes nothing.
+use mathlib.Core.Path.{refl}
+use Rattle.model.specs.Bytes.{zeros, same, pieces, joined}
+use Rattle.model.specs.Coalitions.{member, every, within, lowest}
+use Rattle.model.specs.Terms.{codes, codeOf, readWithin, readTerm, held}
+use Rattle.model.specs.Dates.{leap, daysIn, realDate, nextDay, daysLater, addDays, dateOrNone, inOrder, inDays}
+use Rattle.model.specs.Grants.{countsUnder, visible, voice, spoken, heard, ofGrant, chosen, sound}
+use Rattle.model.specs.Ledgers.{readBook, weighted, checkOf, checked, grantBlocks, allChecked, headerForm, grantForm, readTerms, readDays, readGrant, readGrants, readLedger, withCheck, ledgerOf}
+use Rattle.model.specs.Questions.{refutes, judge, soundUnder, actsForUnder, ask, actsFor}
+use Rattle.model.specs.Extracts.{extractOf, extract}
+use Rattle.model.specs.Derivations.{ruleOf, stepForm, readLeft, readRight, meets, checkStep, checkSteps, checkDerivation}
+use Rattle.model.specs.Texts.{flat, term, rank, fewest}
+use Rattle.model.specs.Notation.{lastOf, readDeep, textCodes, termText}
+use Rattle.requests.specs.Cases.{NotationCases, datedBlock, dated, DayCases}
+
+pub notation-cases : NotationCases
+unfolding codes codeOf readWithin readTerm flat term rank fewest lastOf readDeep textCodes termText
+notation-cases = record {
+  read-1 = refl;
+  read-2 = refl;
+  read-3 = refl;
+  read-4 = refl;
+  read-5 = refl;
+  read-6 = refl;
+  no-text-1 = refl;
+  no-text-2 = refl;
+  no-text-3 = refl;
+  no-text-4 = refl;
+  no-text-5 = refl;
+  no-text-6 = refl;
+  no-text-7 = refl;
+  no-text-8 = refl;
+  too-many = refl;
+  too-many-and-no-text = refl;
+  too-long = refl;
+  no-names = refl;
+  thirteen-names = refl;
+  large-buffer = refl;
+  write-1 = refl;
+  write-2 = refl;
+  write-3 = refl;
+  write-4 = refl;
+  write-5 = refl;
+  large-text-buffer = refl;
+}
+
+pub day-cases : DayCases
+unfolding dated datedBlock zeros same pieces joined codes codeOf readWithin readTerm member held every within visible voice spoken heard inDays countsUnder ofGrant chosen sound weighted checkOf checked grantBlocks allChecked headerForm grantForm readTerms leap daysIn realDate nextDay daysLater addDays dateOrNone inOrder readDays readGrant readGrants readLedger readBook lowest refutes judge soundUnder actsForUnder ask actsFor extractOf extract withCheck ledgerOf ruleOf stepForm readLeft readRight meets checkStep checkSteps checkDerivation
+day-cases = record {
+  last-day = refl;
+  after-last = refl;
+  first-day = refl;
+  before-first = refl;
+  one-day = refl;
+  dates = refl;
+  check = refl;
+  date-first = refl;
+  kind-first = refl;
+  reversed = refl;
+  date-before-order = refl;
+  granting-on-last = refl;
+  granting-after-last = refl;
+  bad-day = refl;
+  leap-2024 = refl;
+  no-leap-2023 = refl;
+  no-leap-1900 = refl;
+  leap-2000 = refl;
+  no-leap-2100 = refl;
+  no-date = refl;
+  added-30 = refl;
+  added-366 = refl;
+  past-2199 = refl;
+  no-such-date = refl;
+  added-367 = refl;
+}

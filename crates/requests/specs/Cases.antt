@@ -1,0 +1,128 @@
+-- Document 02: the cases of the requests, on their own bytes, characters and numbers. Assumes nothing: these are the statements.
+use mathlib.Core.Path.{_≡_}
+use Prim.Native.Nat.{ℕ, _/_, _%_}
+use mathlib.Core.Bool.{true, false}
+use mathlib.Core.List.{List, [], _∷_, _++_}
+use lib.ListN.{replicate}
+use Rattle.model.specs.Sides.{confidentiality}
+use Rattle.model.specs.Readings.{accepted, refused}
+use Rattle.model.specs.Bytes.{field, bigEndian}
+use Rattle.model.specs.Dates.{realDate, addDays}
+use Rattle.model.specs.Ledgers.{readLedger, withCheck, ledgerOf}
+use Rattle.model.specs.Answers.{Answer, Yes, No, Refused, RefusedAt}
+use Rattle.model.specs.Questions.{actsFor}
+use Rattle.model.specs.Extracts.{extract}
+use Rattle.model.specs.Derivations.{checkDerivation}
+use Rattle.model.specs.Notation.{textCodes, termText}
+use Rattle.demands.specs.Cases.{code1, code2}
+
+-- K1: a written notation
+pub record NotationCases : Type 0 where
+  -- a|b|c: joined by | from the left
+  pub read-1 : textCodes 3 (0x61 ∷ 0x7C ∷ 0x62 ∷ 0x7C ∷ 0x63 ∷ []) 64 ≡ accepted (0x31 ∷ 0x31 ∷ 0x00 ∷ 0x01 ∷ 0x02 ∷ [])
+  -- a|(b|c): brackets group to the right
+  pub read-2 : textCodes 3 (0x61 ∷ 0x7C ∷ 0x28 ∷ 0x62 ∷ 0x7C ∷ 0x63 ∷ 0x29 ∷ []) 64 ≡ accepted (0x31 ∷ 0x00 ∷ 0x31 ∷ 0x01 ∷ 0x02 ∷ [])
+  -- a|b&c: & binds closer
+  pub read-3 : textCodes 3 (0x61 ∷ 0x7C ∷ 0x62 ∷ 0x26 ∷ 0x63 ∷ []) 64 ≡ accepted (0x31 ∷ 0x00 ∷ 0x30 ∷ 0x01 ∷ 0x02 ∷ [])
+  -- a&b>: > is of the last atom
+  pub read-4 : textCodes 2 (0x61 ∷ 0x26 ∷ 0x62 ∷ 0x3E ∷ []) 64 ≡ accepted (0x30 ∷ 0x00 ∷ 0x40 ∷ 0x01 ∷ [])
+  -- (a&b)><: the last sign is the outermost
+  pub read-5 : textCodes 2 (0x28 ∷ 0x61 ∷ 0x26 ∷ 0x62 ∷ 0x29 ∷ 0x3E ∷ 0x3C ∷ []) 64 ≡ accepted (0x41 ∷ 0x40 ∷ 0x30 ∷ 0x00 ∷ 0x01 ∷ [])
+  -- a<>: signs after a name
+  pub read-6 : textCodes 1 (0x61 ∷ 0x3C ∷ 0x3E ∷ []) 64 ≡ accepted (0x40 ∷ 0x41 ∷ 0x00 ∷ [])
+  -- c
+  pub no-text-1 : textCodes 2 (0x63 ∷ []) 64 ≡ refused 82
+  -- ()
+  pub no-text-2 : textCodes 2 (0x28 ∷ 0x29 ∷ []) 64 ≡ refused 82
+  -- a&
+  pub no-text-3 : textCodes 2 (0x61 ∷ 0x26 ∷ []) 64 ≡ refused 82
+  -- >a
+  pub no-text-4 : textCodes 2 (0x3E ∷ 0x61 ∷ []) 64 ≡ refused 82
+  -- a b
+  pub no-text-5 : textCodes 2 (0x61 ∷ 0x20 ∷ 0x62 ∷ []) 64 ≡ refused 82
+  -- A
+  pub no-text-6 : textCodes 2 (0x41 ∷ []) 64 ≡ refused 82
+  -- (a
+  pub no-text-7 : textCodes 2 (0x28 ∷ 0x61 ∷ []) 64 ≡ refused 82
+  -- a)
+  pub no-text-8 : textCodes 2 (0x61 ∷ 0x29 ∷ []) 64 ≡ refused 82
+  -- a and 64 times >
+  pub too-many : textCodes 1 (0x61 ∷ replicate 64 0x3E) 64 ≡ refused 83
+  -- a, 64 times > and then &: 82 comes before 83
+  pub too-many-and-no-text : textCodes 1 (0x61 ∷ replicate 64 0x3E ++ 0x26 ∷ []) 64 ≡ refused 82
+  -- a and 256 times >
+  pub too-long : textCodes 1 (0x61 ∷ replicate 256 0x3E) 64 ≡ refused 81
+  -- an empty text, and n 0 or 13: 7 comes before 81
+  pub no-names : textCodes 0 [] 64 ≡ refused 7
+  pub thirteen-names : textCodes 13 [] 64 ≡ refused 7
+  -- a buffer of 65 bytes
+  pub large-buffer : textCodes 1 (0x61 ∷ []) 65 ≡ refused 81
+  -- (a|b)&c
+  pub write-1 : termText 3 (0x30 ∷ 0x31 ∷ 0x00 ∷ 0x01 ∷ 0x02 ∷ []) 256 ≡ accepted (0x28 ∷ 0x61 ∷ 0x7C ∷ 0x62 ∷ 0x29 ∷ 0x26 ∷ 0x63 ∷ [])
+  -- a&(b&c)
+  pub write-2 : termText 3 (0x30 ∷ 0x00 ∷ 0x30 ∷ 0x01 ∷ 0x02 ∷ []) 256 ≡ accepted (0x61 ∷ 0x26 ∷ 0x28 ∷ 0x62 ∷ 0x26 ∷ 0x63 ∷ 0x29 ∷ [])
+  -- a|b|c
+  pub write-3 : termText 3 (0x31 ∷ 0x31 ∷ 0x00 ∷ 0x01 ∷ 0x02 ∷ []) 256 ≡ accepted (0x61 ∷ 0x7C ∷ 0x62 ∷ 0x7C ∷ 0x63 ∷ [])
+  -- a<>
+  pub write-4 : termText 2 (0x40 ∷ 0x41 ∷ 0x00 ∷ []) 256 ≡ accepted (0x61 ∷ 0x3C ∷ 0x3E ∷ [])
+  -- (a&b)><
+  pub write-5 : termText 2 (0x41 ∷ 0x40 ∷ 0x30 ∷ 0x00 ∷ 0x01 ∷ []) 256 ≡ accepted (0x28 ∷ 0x61 ∷ 0x26 ∷ 0x62 ∷ 0x29 ∷ 0x3E ∷ 0x3C ∷ [])
+  -- a buffer of 257 bytes
+  pub large-text-buffer : termText 1 (0x00 ∷ []) 257 ≡ refused 81
+
+-- ---- K2: grants with a first and last day
+
+-- the body of Granted's grant block with a kind, a first and a last day
+abbrev pub datedBody : ℕ → ℕ → ℕ → List ℕ
+datedBody kind first last = kind ∷ 0x01 ∷ 0x01 ∷ 0x02 ∷ replicate 12 0 ++ code1 0x00 ++ code1 0x01 ++ code2 0x41 0x01
+    ++ bigEndian (first / 65536) ++ bigEndian (first % 65536) ++ bigEndian (last / 65536) ++ bigEndian (last % 65536) ++ replicate 294 0
+
+unfoldable pub datedBlock : ℕ → ℕ → ℕ → List ℕ
+datedBlock kind first last = withCheck (datedBody kind first last)
+
+-- Granted with these days
+unfoldable pub dated : ℕ → ℕ → List ℕ
+dated first last = ledgerOf 2 (datedBlock 0x02 first last ∷ [])
+
+-- does 00 act for 01 under 41 01, Granted's grant having these days, on the day
+abbrev pub askedOn : ℕ → ℕ → ℕ → Answer
+askedOn first last day = actsFor (dated first last) (0x00 ∷ []) (0x01 ∷ []) (0x41 ∷ 0x01 ∷ []) day
+
+-- one step by rule 2, 00 for 01 by grant 0
+abbrev pub granting : List ℕ
+granting = 0x02 ∷ 0x00 ∷ 0x00 ∷ 0x00 ∷ 0x01 ∷ 0x01 ∷ 0x00 ∷ 0x00 ∷ code1 0x00 ++ code1 0x01
+
+pub record DayCases : Type 0 where
+  -- both edges are inside, and 0 is no edge
+  pub last-day : askedOn 0 20240131 20240131 ≡ Yes
+  pub after-last : askedOn 0 20240131 20240201 ≡ No confidentiality 1
+  pub first-day : askedOn 20240131 0 20240131 ≡ Yes
+  pub before-first : askedOn 20240131 0 20240130 ≡ No confidentiality 1
+  pub one-day : askedOn 20240131 20240131 20240131 ≡ Yes
+  -- the bytes of the days 20240101 to 20240131, and the check of Granted's grant block with them
+  pub dates : field 208 8 (datedBlock 0x02 20240101 20240131) ≡ (0x01 ∷ 0x34 ∷ 0xD6 ∷ 0xE5 ∷ 0x01 ∷ 0x34 ∷ 0xD7 ∷ 0x03 ∷ [])
+  pub check : field 510 2 (datedBlock 0x02 20240101 20240131) ≡ (0xA2 ∷ 0xC6 ∷ [])
+  -- grant by grant: a bad date of the first is refused before the kind of the second, and the other way round
+  pub date-first : readLedger (ledgerOf 2 (datedBlock 0x02 0 20240230 ∷ datedBlock 0x03 0 0 ∷ [])) ≡ refused 84
+  pub kind-first : readLedger (ledgerOf 2 (datedBlock 0x03 0 0 ∷ datedBlock 0x02 0 20240230 ∷ [])) ≡ refused 13
+  -- days in the wrong order, and a date that is not real before that
+  pub reversed : readLedger (dated 20240131 20240130) ≡ refused 85
+  pub date-before-order : readLedger (dated 20240132 20240130) ≡ refused 84
+  -- a derivation may use the grant on its last day, and not after
+  pub granting-on-last : checkDerivation granting (dated 0 20240131) (0x41 ∷ 0x01 ∷ []) 20240131 ≡ Yes
+  pub granting-after-last : checkDerivation granting (dated 0 20240131) (0x41 ∷ 0x01 ∷ []) 20240201 ≡ RefusedAt 0 66
+  -- a bad day comes before a short buffer and a short ledger
+  pub bad-day : extract (0x01 ∷ []) (0x41 ∷ 0x01 ∷ []) 0 (0x00 ∷ 0x00 ∷ 0x00 ∷ []) ≡ record { answer = Refused 86; buffer = 0x00 ∷ 0x00 ∷ 0x00 ∷ [] }
+  -- leap years
+  pub leap-2024 : realDate 20240229 ≡ true
+  pub no-leap-2023 : realDate 20230229 ≡ false
+  pub no-leap-1900 : realDate 19000229 ≡ false
+  pub leap-2000 : realDate 20000229 ≡ true
+  pub no-leap-2100 : realDate 21000229 ≡ false
+  -- 0 is no date
+  pub no-date : realDate 0 ≡ false
+  pub added-30 : addDays 20240131 30 ≡ accepted 20240301
+  pub added-366 : addDays 20991231 366 ≡ accepted 21010101
+  pub past-2199 : addDays 21991231 1 ≡ refused 86
+  pub no-such-date : addDays 20230229 0 ≡ refused 86
+  pub added-367 : addDays 20240131 367 ≡ refused 86

@@ -36,7 +36,7 @@ LIBDIR = $(PREFIX)/lib
 INCLUDEDIR = $(PREFIX)/include
 PKGCONFIGDIR = $(LIBDIR)/pkgconfig
 
-BOTH = tests/calls.c tests/build.c reference/reference.c reference/notation.c
+BOTH = tests/calls.c tests/build.c reference/reference.c reference/notation.c reference/dates.c
 BOTH_AND_LIB = $(BOTH) tests/library.c $(LIB) $(TRIALS)
 RANDOM = tests/random_calls.c tests/coverage.c
 BENCH = bench/bench.c bench/jobs.c $(RANDOM) $(BOTH_AND_LIB)
@@ -53,8 +53,10 @@ build/librights.a build/libtrials.a: build/lib%.a: $(CRATES) | build
 build/rights.h: include/rights.h | build
 	cp $< $@
 
+version_of = sed -n 's/^.define RIGHTS_VERSION //p'
+
 # rights.pc with a prefix, the library's folder and the header's; its version is the header's
-VERSION = $(shell sed -n 's/^.define RIGHTS_VERSION //p' include/rights.h)
+VERSION = $(shell $(version_of) include/rights.h)
 rights_pc = sed -e 's|@VERSION@|$(VERSION)|' -e 's|@PREFIX@|$1|' -e 's|@LIBDIR@|$2|' -e 's|@INCLUDEDIR@|$3|' \
 	include/rights.pc.in
 
@@ -107,15 +109,17 @@ build/bench: CFLAGS += $(BENCH_CFLAGS)
 
 BENCH_PROGRAM = build/bench
 
-# the benchmark with the archive of an earlier revision, whose entry points get other names
+# the benchmark with the archive of an earlier revision, whose entry points get other names; by its version, 0 where
+# its rights.h has none, the benchmark knows how they are called
 ifdef BEFORE
 REVISION := $(or $(shell git rev-parse --verify --short '$(BEFORE)^{commit}'),$(error no revision $(BEFORE)))
+BEFORE_VERSION := $(or $(shell git show $(REVISION):include/rights.h | $(version_of)),0)
 BENCH_PROGRAM = build/bench-$(REVISION)
 PROGRAMS += $(BENCH_PROGRAM)
 ENTRY_POINTS = rights_acts_for rights_flows_to rights_extract rights_short_form rights_check_derivation
 
 $(BENCH_PROGRAM): $(BENCH) bench/before.c build/before-$(REVISION).a
-$(BENCH_PROGRAM): CFLAGS += $(BENCH_CFLAGS) -DBEFORE='"$(REVISION)"'
+$(BENCH_PROGRAM): CFLAGS += $(BENCH_CFLAGS) -DBEFORE='"$(REVISION)"' -DBEFORE_VERSION=$(BEFORE_VERSION)
 
 # made outside of the repository: rt would look for crates among its files
 build/before-$(REVISION).a: | build

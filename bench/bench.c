@@ -1,6 +1,6 @@
 /*
  * How much processor time the library and the reference take for the same calls, in one run. Compiled with BEFORE, the
- * name of an earlier revision, it measures the archive of that revision too.
+ * name of an earlier revision, and BEFORE_VERSION, that of its rights.h, it measures the archive of that revision too.
  *
  * Each call is measured alone, made again and again, and then with 31 others on other jobs, all made in turn: of one
  * job alone the processor learns which way the branches go.
@@ -22,6 +22,8 @@ enum {
 
 #ifdef BEFORE
 extern const struct engine before_engine; /* in before.c, the one file here that needs the earlier archive */
+#else
+#define BEFORE_VERSION 0
 #endif
 
 static const struct engine *const engines[] = {
@@ -34,10 +36,16 @@ static const struct engine *const engines[] = {
 
 enum { LIBRARY, REFERENCE, EARLIER, ENGINES = sizeof engines / sizeof *engines };
 
-/* How many of the engines make this call: an earlier archive doesn't have the calls of trials.h. */
-static unsigned engines_for(enum operation operation)
+/* How many of the engines have this call: an earlier archive doesn't have those of trials.h. */
+static unsigned engines_with(enum operation operation)
 {
-    return operation == READ_TEXT || operation == WRITE_TERM ? EARLIER : ENGINES;
+    return operation == READ_TEXT || operation == WRITE_TERM || operation == ADD_DAYS ? EARLIER : ENGINES;
+}
+
+/* How many of these answer it: an archive of before version 3 doesn't know days. */
+static unsigned engines_for(const struct call *call)
+{
+    return BEFORE_VERSION < 3 && is_dated(&call->ledger) ? EARLIER : engines_with(call->operation);
 }
 
 /* These engines gave the same number, and it is as wanted; otherwise the run ends. */
@@ -164,7 +172,7 @@ static bool is_wanted(uint32_t answer, unsigned kind, unsigned n)
 {
     if (kind == REFUSED)
         return answer == REFUSED * PER_KIND + 83;
-    return kind == NO ? is_late_no(answer, n) : answer / PER_KIND == kind;
+    return kind == NO ? is_late_no(answer, n) : kind_of(answer) == kind;
 }
 
 /* ---- Tables ---- */
@@ -177,18 +185,21 @@ static void print_head(const char *what, unsigned engine_count)
     putchar('\n');
 }
 
-/* Measures the first `count` calls in turn, all wanted to give this kind of answer. */
+/* Measures the first `count` calls in turn, all wanted to give this kind of answer. An engine that has the call but
+ * doesn't know days gets a dash. */
 static void print_line(const char *what, unsigned count, unsigned kind, unsigned n)
 {
     struct measured measured[ENGINES];
-    unsigned engine_count = engines_for(requests[0].operation);
+    unsigned engine_count = engines_for(&calls[0]), columns = engines_with(calls[0].operation);
     measure(engine_count, count, measured);
     for (unsigned i = 0; i < count; i++)
         expect(what, answers_of[i], engine_count, is_wanted(answers_of[i][0], kind, n));
-    double library = measured[LIBRARY].best, reference = measured[REFERENCE].best;
-    printf("  %-26s %12.2f %14.2f %8.1f", what, library, reference, reference / library);
+    double library = measured[LIBRARY].best, reference = measured[REFERENCE].best, ratio = reference / library;
+    printf("  %-26s %12.2f %14.2f %8.*f", what, library, reference, ratio < 0.1 ? 3 : 1, ratio);
     for (unsigned e = EARLIER; e < engine_count; e++)
         printf(" %12.2f %14.2f", measured[e].best, measured[e].best / library);
+    for (unsigned e = engine_count; e < columns; e++)
+        printf(" %12s %14s", "-", "-");
     putchar('\n');
     fflush(stdout);
 }
@@ -205,6 +216,10 @@ static const struct row {
     {"extract, breaking", make_breaking_extract, YES},
     {"64-step derivation", make_derivation, YES},
     {"short form", make_short_form, YES},
+    {"acts-for, static, dated", make_dated_static_yes, YES},
+    {"acts-for, chain, dated", make_dated_chain_yes, YES},
+    {"extract, chain, dated", make_dated_chain_extract, YES},
+    {"64-step derivation, dated", make_dated_derivation, YES},
 };
 
 static const struct row notation_rows[] = {
@@ -212,6 +227,10 @@ static const struct row notation_rows[] = {
     {"read 256, 64 codes", make_bracketed_text, YES},
     {"read 256, refused by 83", make_bare_text, REFUSED},
     {"write 64 codes", make_written_term, YES},
+};
+
+static const struct row date_rows[] = {
+    {"add 366 days", make_added_days, YES},
 };
 
 /* Each row on one job, and then on all in turn. */
@@ -274,6 +293,12 @@ static void print_notation(void)
     print_rows(notation_rows, sizeof notation_rows / sizeof *notation_rows, (struct job){NAMES, 0, 0});
 }
 
+static void print_dates(void)
+{
+    print_head("dates", EARLIER);
+    print_rows(date_rows, sizeof date_rows / sizeof *date_rows, (struct job){1, 0, 0});
+}
+
 int main(void)
 {
     for (unsigned e = EARLIER; e < ENGINES; e++)
@@ -284,5 +309,6 @@ int main(void)
     print_growth_with_grants();
     print_growth_with_names();
     print_notation();
+    print_dates();
     return 0;
 }

@@ -4,6 +4,9 @@
 
 #include <string.h>
 
+/* On which all is asked. */
+enum { DAY = 20240131 };
+
 /* ---- Names ---- */
 
 static void swap(unsigned *a, unsigned *b)
@@ -141,6 +144,7 @@ static void start_call(struct call *call, struct job job)
     memset(call, 0, sizeof *call);
     start_ledger(&call->ledger, job.n);
     call->label = one_code(WEAKEST);
+    call->day = DAY;
     call->number = job.n;
 }
 
@@ -334,6 +338,65 @@ void make_short_form(struct call *call, struct job job, unsigned seed)
     call->operation = SHORT_FORM;
     call->p = mixed_tree(&source, names, job.n, job.codes);
     call->buffer_length = BUFFER_ROOM; /* enough for earlier archives, which ask for more, too */
+}
+
+/* ---- Days ---- */
+
+/* A date of one of these years. */
+static uint32_t some_date(struct source *source, unsigned first_year, unsigned last_year)
+{
+    uint32_t date = 10000 * (first_year + below(source, last_year + 1 - first_year));
+    date += 100 * (1 + below(source, 12));
+    return date + 1 + below(source, 28);
+}
+
+/* Makes the ledger a dated one. */
+static void date_grants(struct call *call, unsigned seed)
+{
+    struct source source = {seed};
+    for (unsigned i = 0; i < grant_count(&call->ledger); i++) {
+        uint32_t first = some_date(&source, 2014, 2023), last = some_date(&source, 2025, 2034);
+        put_days(block_of(&call->ledger, i + 1), first, last);
+    }
+}
+
+/* All grants have days, or none has; the first byte of a date is 01. */
+bool is_dated(const struct ledger *ledger)
+{
+    return grant_count(ledger) > 0 && ledger->bytes[BLOCK + 208] != 0;
+}
+
+void make_dated_static_yes(struct call *call, struct job job, unsigned seed)
+{
+    make_static_yes(call, job, seed);
+    date_grants(call, seed);
+}
+
+void make_dated_chain_yes(struct call *call, struct job job, unsigned seed)
+{
+    make_chain_yes(call, job, seed);
+    date_grants(call, seed);
+}
+
+void make_dated_chain_extract(struct call *call, struct job job, unsigned seed)
+{
+    make_chain_extract(call, job, seed);
+    date_grants(call, seed);
+}
+
+void make_dated_derivation(struct call *call, struct job job, unsigned seed)
+{
+    make_derivation(call, job, seed);
+    date_grants(call, seed);
+}
+
+void make_added_days(struct call *call, struct job job, unsigned seed)
+{
+    struct source source = {seed};
+    start_call(call, job);
+    call->operation = ADD_DAYS;
+    call->day = some_date(&source, FIRST_YEAR, LAST_YEAR - 2);
+    call->number = DAYS_ADDED_MOST;
 }
 
 /* ---- Notation ---- */

@@ -1,8 +1,9 @@
 /*
  * The jobs of the benchmark, and the calls on them.
  *
- * A job has n names, and grants whose p and q all have the same number of codes. All is asked under the label 21.
- * A grant counts exactly if its label is its grantor's own word: 41 and then q.
+ * A job has n names, and grants whose p and q all have the same number of codes. All is asked under the label 21 and
+ * on one day. A grant counts exactly if its label is its grantor's own word: 41 and then q. It has no days, or, in a
+ * dated ledger, a first and a last day around that day.
  *
  * There are two sorts of ledgers. In a chain each name is granted to act for the next one, the names in some order
  * and the grants in another; other grants stand between these, and half of the others don't count. In a breaking
@@ -31,16 +32,24 @@ make_call make_late_no, make_breaking_extract, make_derivation;
 /* On grants that need not break anything of their own: p and q of the first. */
 make_call make_granted_yes;
 
+/* As those without "dated", on dated ledgers. */
+make_call make_dated_static_yes, make_dated_chain_yes, make_dated_chain_extract, make_dated_derivation;
+
 make_call make_short_form;
 
 /* Of n names: a text of 256 characters with 64 codes and brackets; one in which every character is a code, so that they
  * are too many; a text of 38 characters; a term of 64 codes. */
 make_call make_bracketed_text, make_bare_text, make_usual_text, make_written_term;
 
+/* As many days as can be added, to some date. */
+make_call make_added_days;
+
 /* A no on the change side by one of the last 64 coalitions: nearly all were looked at. */
 bool is_late_no(uint32_t answer, unsigned n);
 
 /* Is the grant's label 41 and then q? */
 bool meant_to_count(const struct ledger *ledger, unsigned grant);
+
+bool is_dated(const struct ledger *ledger);
 
 #endif

@@ -1,5 +1,5 @@
 /*
- * A workflow program: it makes two ledgers, asks about them, and prints the answers for a person.
+ * A workflow program: it makes two ledgers, asks about them on two days, and prints the answers for a person.
  *
  *     make demo
  *     cc examples/workflow.c $(PKG_CONFIG_PATH=build pkg-config --cflags --libs rights)
@@ -31,6 +31,12 @@ static void put_two_bytes(uint8_t *at, unsigned value)
     at[1] = (uint8_t)value;
 }
 
+static void put_date(uint8_t *at, uint32_t date)
+{
+    put_two_bytes(at, date >> 16);
+    put_two_bytes(at + 2, date);
+}
+
 static void write_check(uint8_t *block)
 {
     uint32_t sum = 0;
@@ -49,8 +55,10 @@ static void start_ledger(struct ledger *ledger, unsigned n)
     write_check(ledger->bytes);
 }
 
-/* One more grant: p acts for q, said under a label. At most RIGHTS_GRANTS_MAX. */
-static void add_grant(struct ledger *ledger, struct term p, struct term q, struct term label)
+/* One more grant: p acts for q, said under a label, from a first day to a last, 0 where there is none. At most
+ * RIGHTS_GRANTS_MAX. */
+static void add_grant(struct ledger *ledger, struct term p, struct term q, struct term label, uint32_t first,
+                      uint32_t last)
 {
     uint8_t *block = ledger->bytes + ledger->length;
     block[0] = 2;
@@ -60,6 +68,8 @@ static void add_grant(struct ledger *ledger, struct term p, struct term q, struc
     memcpy(block + 16, p.codes, p.length);
     memcpy(block + 80, q.codes, q.length);
     memcpy(block + 144, label.codes, label.length);
+    put_date(block + 208, first);
+    put_date(block + 212, last);
     write_check(block);
 
     ledger->length += RIGHTS_BLOCK_SIZE;
@@ -139,6 +149,7 @@ static void print_term(const struct term *term)
 
 static void print_answer(uint32_t answer)
 {
+    unsigned refusal = rights_refusal_of(answer);
     switch (rights_kind_of(answer)) {
     case RIGHTS_YES:
         puts("yes");
@@ -150,9 +161,9 @@ static void print_answer(uint32_t answer)
         break;
     default:
         fputs("refused", stdout);
-        if (rights_refusal_of(answer) >= RIGHTS_STEP_FORM)
+        if (refusal >= RIGHTS_STEP_FORM && refusal <= RIGHTS_STEP_RULE)
             printf(" at step %u", rights_step_of(answer));
-        printf(": %s\n", rights_refusal_text(rights_refusal_of(answer)));
+        printf(": %s\n", rights_refusal_text(refusal));
     }
 }
 
@@ -167,29 +178,30 @@ static void print_question(const struct term *p, const char *verb, const struct 
     print_term(q);
 }
 
-static void ask_acts_for(const struct ledger *ledger, struct term p, struct term q, struct term label)
+static void ask_acts_for(const struct ledger *ledger, struct term p, struct term q, struct term label, uint32_t day)
 {
     print_question(&p, "act for", &q);
     fputs(", under ", stdout);
     print_term(&label);
     fputs("?  ", stdout);
     print_answer(rights_acts_for(ledger->bytes, ledger->length, p.codes, p.length, q.codes, q.length,
-                                 label.codes, label.length));
+                                 label.codes, label.length, day));
 }
 
-static void ask_flows_to(const struct ledger *ledger, struct term p, struct term q, struct term label)
+static void ask_flows_to(const struct ledger *ledger, struct term p, struct term q, struct term label, uint32_t day)
 {
     print_question(&p, "flow to", &q);
     fputs("?  ", stdout);
     print_answer(rights_flows_to(ledger->bytes, ledger->length, p.codes, p.length, q.codes, q.length,
-                                 label.codes, label.length));
+                                 label.codes, label.length, day));
 }
 
 /* Prints the coalitions of n names that are sound on each side. */
-static void show_extract(const struct ledger *ledger, unsigned n, struct term label)
+static void show_extract(const struct ledger *ledger, unsigned n, struct term label, uint32_t day)
 {
     uint8_t extract[RIGHTS_EXTRACT_SIZE];
-    uint32_t answer = rights_extract(ledger->bytes, ledger->length, label.codes, label.length, extract, sizeof extract);
+    uint32_t answer = rights_extract(ledger->bytes, ledger->length, label.codes, label.length, day,
+                                     extract, sizeof extract);
     if (rights_kind_of(answer) != RIGHTS_YES) {
         print_answer(answer);
         return;
@@ -235,7 +247,7 @@ static void show_short_form(unsigned n, struct term term)
 }
 
 /* Two steps: grant 0 as it stands, then the see sides of its terms. */
-static void check_derivation(const struct ledger *ledger, struct term label)
+static void check_derivation(const struct ledger *ledger, struct term label, uint32_t day)
 {
     static const uint8_t derivation[2][RIGHTS_STEP_SIZE] = {
         {[0] = 2, [3] = 0, [4] = 1, [5] = 1, [8] = 0, [72] = 1},
@@ -245,7 +257,7 @@ static void check_derivation(const struct ledger *ledger, struct term label)
     print_term(&label);
     fputs("?  ", stdout);
     print_answer(rights_check_derivation(derivation[0], sizeof derivation, ledger->bytes, ledger->length,
-                                         label.codes, label.length));
+                                         label.codes, label.length, day));
 }
 
 int main(void)
@@ -253,27 +265,31 @@ int main(void)
     static struct ledger plain, granted;
     const struct term a = TERM(0), b = TERM(1), c = TERM(2), anyone = TERM(RIGHTS_WEAKEST);
     const struct term change_of_b = TERM(RIGHTS_CHANGE_OF, 1);
+    const uint32_t day = 20240131, next_day = 20240201;
 
     start_ledger(&plain, 2);
-    puts("A job of A and B, no grants:");
-    ask_acts_for(&plain, TERM(RIGHTS_BOTH, 0, 1), a, anyone);
-    ask_acts_for(&plain, TERM(RIGHTS_EITHER, 0, 1), a, anyone);
-    ask_acts_for(&plain, a, c, anyone);
-    ask_flows_to(&plain, TERM(RIGHTS_SEE_OF, 0), TERM(RIGHTS_SEE_OF, RIGHTS_BOTH, 0, 1), anyone);
-    ask_flows_to(&plain, TERM(RIGHTS_SEE_OF, RIGHTS_BOTH, 0, 1), TERM(RIGHTS_SEE_OF, 0), anyone);
+    puts("On 2024-01-31, a job of A and B, no grants:");
+    ask_acts_for(&plain, TERM(RIGHTS_BOTH, 0, 1), a, anyone, day);
+    ask_acts_for(&plain, TERM(RIGHTS_EITHER, 0, 1), a, anyone, day);
+    ask_acts_for(&plain, a, c, anyone, day);
+    ask_flows_to(&plain, TERM(RIGHTS_SEE_OF, 0), TERM(RIGHTS_SEE_OF, RIGHTS_BOTH, 0, 1), anyone, day);
+    ask_flows_to(&plain, TERM(RIGHTS_SEE_OF, RIGHTS_BOTH, 0, 1), TERM(RIGHTS_SEE_OF, 0), anyone, day);
     show_short_form(2, TERM(RIGHTS_EITHER, 0, RIGHTS_BOTH, 0, 1));
 
     start_ledger(&granted, 2);
-    add_grant(&granted, a, b, change_of_b);
-    puts("With the grant that A acts for B, said under change(B):");
-    ask_acts_for(&granted, a, b, change_of_b);
-    ask_acts_for(&granted, a, b, a);
-    check_derivation(&granted, change_of_b);
-    check_derivation(&granted, a);
-    show_extract(&granted, 2, change_of_b);
+    add_grant(&granted, a, b, change_of_b, 20240101, 20240131);
+    puts("With the grant that A acts for B, said under change(B), from 2024-01-01 to 2024-01-31:");
+    ask_acts_for(&granted, a, b, change_of_b, day);
+    ask_acts_for(&granted, a, b, a, day);
+    check_derivation(&granted, change_of_b, day);
+    check_derivation(&granted, a, day);
+    show_extract(&granted, 2, change_of_b, day);
+
+    puts("On 2024-02-01, the day after:");
+    ask_acts_for(&granted, a, b, change_of_b, next_day);
 
     granted.bytes[600] ^= 1;
     puts("After a byte of that ledger was changed:");
-    ask_acts_for(&granted, a, b, change_of_b);
+    ask_acts_for(&granted, a, b, change_of_b, day);
     return 0;
 }

@@ -39,6 +39,12 @@ static uint64_t take_eight(struct input *in)
     return value;
 }
 
+static uint32_t take_four(struct input *in)
+{
+    uint32_t high = take_two(in);
+    return high << 16 | take_two(in);
+}
+
 /* Mostly a number below `end`, now and then any byte. */
 static unsigned take_below(struct input *in, unsigned end)
 {
@@ -89,6 +95,27 @@ static struct term take_text(struct input *in)
     return text;
 }
 
+/* ---- Days ---- */
+
+/* Mostly a real date, or a day that its month doesn't have; now and then any number. */
+static uint32_t take_date(struct input *in)
+{
+    if (take(in) >= 240)
+        return take_four(in);
+    uint32_t year = FIRST_YEAR + take_two(in) % (LAST_YEAR + 1 - FIRST_YEAR);
+    uint32_t month = 1 + take(in) % 12, day = 1 + take(in) % 31;
+    return 10000 * year + 100 * month + day;
+}
+
+/* An edge of a grant's days: none, near the day of the call, or any date. */
+static uint32_t take_edge(struct input *in, uint32_t day)
+{
+    unsigned draw = take(in);
+    if (draw < 96)
+        return 0;
+    return draw < 224 ? day + draw % 5 - 2 : take_date(in);
+}
+
 /* ---- Ledgers and derivations ---- */
 
 static void put_field(uint8_t *field, uint8_t *length, const struct term *term)
@@ -97,8 +124,8 @@ static void put_field(uint8_t *field, uint8_t *length, const struct term *term)
     *length = (uint8_t)term->length;
 }
 
-/* A grant whose terms may have any length. */
-static void take_grant(struct input *in, struct ledger *ledger, unsigned n)
+/* A grant whose terms may have any length, in a ledger that is asked on this day. */
+static void take_grant(struct input *in, struct ledger *ledger, unsigned n, uint32_t day)
 {
     const struct term none = {0};
     add_grant(ledger, &none, &none, &none);
@@ -107,7 +134,8 @@ static void take_grant(struct input *in, struct ledger *ledger, unsigned n)
         struct term term = take_term(in, n);
         put_field(block + 16 + 64 * which, block + 1 + which, &term);
     }
-    seal(block);
+    uint32_t first = take_edge(in, day), last = take_edge(in, day);
+    put_days(block, first, last);
 }
 
 /* Another value for some bytes, most with a new check. */
@@ -121,11 +149,11 @@ static void patch_ledger(struct input *in, struct ledger *ledger)
     }
 }
 
-static void take_ledger(struct input *in, struct ledger *ledger, unsigned n)
+static void take_ledger(struct input *in, struct ledger *ledger, unsigned n, uint32_t day)
 {
     start_ledger(ledger, n);
     for (unsigned grants = take(in) % 8; grants > 0; grants--)
-        take_grant(in, ledger, n);
+        take_grant(in, ledger, n, day);
     patch_ledger(in, ledger);
     if (take(in) % 16 == 15)
         ledger->length = take_two(in) % (LEDGER_ROOM + 1);
@@ -186,6 +214,11 @@ static void take_call(struct input *in, struct call *call)
     memset(call, 0, sizeof *call);
     call->operation = performed[take(in) % PERFORMED];
     call->fill = take(in);
+    if (call->operation == ADD_DAYS) {
+        call->day = take_date(in);
+        call->number = take(in) < 240 ? take_two(in) % (DAYS_ADDED_MOST + 2) : take_four(in);
+        return;
+    }
     unsigned n = 1 + take_below(in, NAMES);
     call->buffer_length = take_buffer_length(in, buffer_length_of(call->operation));
     if (call->operation == SHORT_FORM || call->operation == READ_TEXT || call->operation == WRITE_TERM) {
@@ -193,7 +226,8 @@ static void take_call(struct input *in, struct call *call)
         call->p = call->operation == READ_TEXT ? take_text(in) : take_term(in, n);
         return;
     }
-    take_ledger(in, &call->ledger, n);
+    call->day = take_date(in);
+    take_ledger(in, &call->ledger, n, call->day);
     call->label = take_term(in, n);
     if (call->operation == DERIVATION) {
         take_derivation(in, &call->ledger, &call->derivation, n);

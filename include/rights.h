@@ -5,7 +5,7 @@
  * whom. Five calls decide questions about it. Each takes bytes and gives one 32-bit number, which the
  * functions below take apart: yes, no with a counterexample, or refused with a reason.
  *
- *     uint32_t answer = rights_acts_for(ledger, ledger_len, p, p_len, q, q_len, label, label_len);
+ *     uint32_t answer = rights_acts_for(ledger, ledger_len, p, p_len, q, q_len, label, label_len, 20240131);
  *     if (rights_kind_of(answer) == RIGHTS_YES) ...
  *
  * Terms. Who p or q is, and how far a label reaches, is said by a term: 1 to 64 bytes, operator first
@@ -21,13 +21,19 @@
  * The ledger. Blocks of 512 bytes; the last two bytes of a block are its check, big-endian: the sum of
  * (i + 1) times byte i, i from 0 to 509, modulo 65521. Block 0: byte 0 is 01, byte 1 is n, bytes 2 and 3 are
  * the number of grants, 0 to 64, big-endian. Then a block for each grant: byte 0 is 02; bytes 1, 2, 3 are the
- * lengths of the terms p, q and d, which begin at bytes 16, 80 and 144: p acts for q, said under label d.
- * All other bytes are 00.
+ * lengths of the terms p, q and d, which begin at bytes 16, 80 and 144: p acts for q, said under label d;
+ * bytes 208 to 211 are the grant's first day and 212 to 215 its last, big-endian, 0 where there is no edge on
+ * that end. All other bytes are 00.
  *
- * The label. Every question is asked under a label, a term too. A grant counts under it if the grant's own
- * label flows to it (see rights_flows_to, here without grants) and speaks for q: whoever holds d on the
- * change side holds q on both. A coalition is sound on a side if no counting grant has its p held there
- * and its q not. Answers look at sound coalitions only: so grants make more questions a yes.
+ * Days. A day is a real date of the Gregorian calendar, of the years 1900 to 2199, as the number
+ * year * 10000 + month * 100 + day: 20240131 is the last day of January 2024. Every question, extract and
+ * derivation check is asked on a day, which is never 0; a short form takes none. A grant counts only within
+ * its days, its first and its last inside.
+ *
+ * The label. Every question is asked under a label, a term too. Within its days a grant counts under it if
+ * the grant's own label flows to it (see rights_flows_to, here without grants) and speaks for q: whoever
+ * holds d on the change side holds q on both. A coalition is sound on a side if no counting grant has its p
+ * held there and its q not. Answers look at sound coalitions only: so grants make more questions a yes.
  *
  * Slices. A pointer and a length in bytes. Any length and any bytes are safe: what doesn't fit is refused.
  * With length 0 the pointer is not used and may be null. Otherwise it points to that many bytes, which
@@ -52,9 +58,11 @@ extern "C" {
 /*
  * The version, for #if; rights.pc has the same. It grows by 1 whenever a call, a form or a number of this
  * header changes its meaning, or a new one comes. 1 is the first: where there is no such macro, #if takes it
- * for 0. Since 2, RIGHTS_SHORT_FORM_MIN is 3700; before, it was 16388.
+ * for 0. Since 2, RIGHTS_SHORT_FORM_MIN is 3700; before, it was 16388. Since 3, every call but
+ * rights_short_form takes a day, and a grant's block has days, with refusals 84 to 86; before, bytes 208 to
+ * 215 were 00, and such a ledger is read as it was.
  */
-#define RIGHTS_VERSION 2
+#define RIGHTS_VERSION 3
 
 /* Sizes, in bytes unless said otherwise. */
 #define RIGHTS_NAMES_MAX 12        /* names of a job */
@@ -102,12 +110,17 @@ enum rights_refusal {
     RIGHTS_NAMES = 7,               /* n is not 1 to 12 */
     RIGHTS_SHORT_FORM_BUFFER = 8,   /* the buffer is shorter than RIGHTS_SHORT_FORM_MIN */
 
-    /* the ledger */
+    /* the day of a question, an extract and a derivation check: before everything else */
+    RIGHTS_DAY = 86,            /* not a real date */
+
+    /* the ledger; its grants one after another, each by 13, 14, 84 and 85 before the next */
     RIGHTS_LEDGER_LENGTH = 10,  /* not a multiple of 512 from 512 to 33280 */
     RIGHTS_LEDGER_CHECK = 11,   /* a block's check fails */
     RIGHTS_LEDGER_HEADER = 12,  /* block 0: its kind, n, a count unlike the number of blocks, or filler */
     RIGHTS_LEDGER_GRANT = 13,   /* a grant's block: its kind, a term's length, or filler */
     RIGHTS_LEDGER_TERM = 14,    /* a term of a grant */
+    RIGHTS_GRANT_DATE = 84,     /* a grant's first or last day is not a real date and not 0 */
+    RIGHTS_GRANT_DAYS = 85,     /* a grant's first day is after its last, neither being 0 */
 
     /* the terms of a question, an extract and a derivation check, as 1 to 4 above */
     RIGHTS_P_LENGTH = 21,
@@ -132,17 +145,18 @@ enum rights_refusal {
     RIGHTS_STEP_Q = 63,             /* q is no term */
     RIGHTS_STEP_PREMISE = 64,       /* a premise is not an earlier step */
     RIGHTS_STEP_GRANT = 65,         /* there is no such grant */
-    RIGHTS_STEP_NOT_COUNTING = 66,  /* the grant doesn't count under the label */
+    RIGHTS_STEP_NOT_COUNTING = 66,  /* the grant doesn't count under the label on the day */
     RIGHTS_STEP_RULE = 67           /* the step doesn't meet its rule */
 };
 
 /*
  * Does p act for q? Yes if, on each side, every sound coalition that holds p holds q. A no gives the first
  * coalition that doesn't: on the see side if there is one, the lowest number.
- * Refusals: 10 to 14, 21 to 24, 31 to 34, 41 to 44.
+ * Refusals: 86, 10 to 14, 84, 85, 21 to 24, 31 to 34, 41 to 44.
  */
 uint32_t rights_acts_for(const uint8_t *ledger, size_t ledger_len, const uint8_t *p, size_t p_len,
-                         const uint8_t *q, size_t q_len, const uint8_t *label, size_t label_len);
+                         const uint8_t *q, size_t q_len, const uint8_t *label, size_t label_len,
+                         uint32_t day);
 
 /*
  * Does information flow from p to q? Yes if on the see side every sound coalition that holds q holds p, and
@@ -150,15 +164,17 @@ uint32_t rights_acts_for(const uint8_t *ledger, size_t ledger_len, const uint8_t
  * Refusals: as rights_acts_for.
  */
 uint32_t rights_flows_to(const uint8_t *ledger, size_t ledger_len, const uint8_t *p, size_t p_len,
-                         const uint8_t *q, size_t q_len, const uint8_t *label, size_t label_len);
+                         const uint8_t *q, size_t q_len, const uint8_t *label, size_t label_len,
+                         uint32_t day);
 
 /*
- * Which coalitions are sound under the label? Writes a bit for each into a buffer of RIGHTS_EXTRACT_SIZE
- * bytes: see rights_extract_has. Two ledgers of the same n with equal extracts answer every question alike.
- * Refusals: 51, 10 to 14, 41 to 44.
+ * Which coalitions are sound under the label on the day? Writes a bit for each into a buffer of
+ * RIGHTS_EXTRACT_SIZE bytes: see rights_extract_has. Two ledgers of the same n with equal extracts answer
+ * every question under that label on that day alike.
+ * Refusals: 86, 51, 10 to 14, 84, 85, 41 to 44.
  */
 uint32_t rights_extract(const uint8_t *ledger, size_t ledger_len, const uint8_t *label, size_t label_len,
-                        uint8_t *buffer, size_t buffer_len);
+                        uint32_t day, uint8_t *buffer, size_t buffer_len);
 
 /*
  * Which are the smallest coalitions that hold the term, in a job of n names? Writes, for the see side and
@@ -175,17 +191,17 @@ uint32_t rights_short_form(uint64_t n, const uint8_t *term, size_t term_len, uin
  * from 0), 3 a grant (from 0), 4 and 5 the lengths of p and q, p from byte 8, q from byte 72, all other
  * bytes and the fields that a rule doesn't use 00. The rules, terms compared byte for byte:
  *   1  p acts for q without any grant
- *   2  the grant in byte 3 counts under the label and has this p and q
+ *   2  the grant in byte 3 counts under the label on the day and has this p and q
  *   3  the first premise is p for m, the second m for q
  *   4  q is 30, then the right terms of the two premises; the left terms of both are p
  *   5  p is 31, then the left terms of the two premises; the right terms of both are q
  *   6  p and q are 40 and then the terms of the premise in byte 1
  *   7  the same with 41
- * Refusals: 10 to 14, 41 to 44, 60, and then, step by step, 61 to 67.
+ * Refusals: 86, 10 to 14, 84, 85, 41 to 44, 60, and then, step by step, 61 to 67.
  */
 uint32_t rights_check_derivation(const uint8_t *derivation, size_t derivation_len,
                                  const uint8_t *ledger, size_t ledger_len,
-                                 const uint8_t *label, size_t label_len);
+                                 const uint8_t *label, size_t label_len, uint32_t day);
 
 /* The parts of an answer. That this arithmetic gives them back is proved: docs/READING.md says where. */
 
@@ -242,11 +258,14 @@ static inline const char *rights_refusal_text(unsigned refusal)
     case RIGHTS_TERM_LEFT_OVER: return "codes are left after the term";
     case RIGHTS_NAMES: return "a job has 1 to 12 names";
     case RIGHTS_SHORT_FORM_BUFFER: return "the buffer for the short form is too short";
+    case RIGHTS_DAY: return "the day is not a real date";
     case RIGHTS_LEDGER_LENGTH: return "the ledger's length is wrong";
     case RIGHTS_LEDGER_CHECK: return "a check of the ledger fails";
     case RIGHTS_LEDGER_HEADER: return "the ledger's first block is malformed";
     case RIGHTS_LEDGER_GRANT: return "a grant's block is malformed";
     case RIGHTS_LEDGER_TERM: return "a grant has a malformed term";
+    case RIGHTS_GRANT_DATE: return "a grant has a date that is not real";
+    case RIGHTS_GRANT_DAYS: return "a grant's first day is after its last";
     case RIGHTS_P_LENGTH: return "p has no codes, or over 64";
     case RIGHTS_P_CODE: return "p has a byte that is no code, or an unknown name";
     case RIGHTS_P_ENDS: return "p ends too early";
@@ -266,7 +285,7 @@ static inline const char *rights_refusal_text(unsigned refusal)
     case RIGHTS_STEP_Q: return "the step's q is no term";
     case RIGHTS_STEP_PREMISE: return "a premise is not an earlier step";
     case RIGHTS_STEP_GRANT: return "there is no such grant";
-    case RIGHTS_STEP_NOT_COUNTING: return "the grant doesn't count under this label";
+    case RIGHTS_STEP_NOT_COUNTING: return "the grant doesn't count under this label on this day";
     case RIGHTS_STEP_RULE: return "the step doesn't follow by its rule";
     default: return "a reason that this rights.h doesn't know";
     }

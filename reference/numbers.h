@@ -20,6 +20,8 @@ enum {
     TEXT_MOST = 256 /* characters; also the buffer that a term is written to */
 };
 
+enum { FIRST_YEAR = 1900, LAST_YEAR = 2199, DAYS_ADDED_MOST = 366 };
+
 enum code { STRONGEST = 0x20, WEAKEST = 0x21, BOTH = 0x30, EITHER = 0x31, SEE_OF = 0x40, CHANGE_OF = 0x41 };
 
 enum side { SEE = 0, CHANGE = 1 };

@@ -1,6 +1,6 @@
 /*
- * Document 01 in plain C, section by section, one coalition at a time. Meant to be seen to be right, not to
- * be fast. A refusal is its number; 0 says that there is none.
+ * Document 01 in plain C, section by section, one coalition at a time, with the days of document 02, K2. Meant to
+ * be seen to be right, not to be fast. A refusal is its number; 0 says that there is none.
  */
 #include "reference.h"
 
@@ -115,12 +115,19 @@ static bool acts_for_statically(unsigned n, struct term p, struct term q)
 
 struct grant {
     struct term p, q, label;
+    uint32_t first, last; /* its days; 0 where there is no edge on that end */
 };
 
 struct grants {
     unsigned n;
     size_t count;
     struct grant grant[GRANTS];
+};
+
+/* What a call is asked under and on. */
+struct under {
+    struct term label;
+    uint32_t day;
 };
 
 static bool visible(unsigned n, struct term d, struct term label)
@@ -142,17 +149,23 @@ static bool spoken(unsigned n, struct term d, struct term q)
     return true;
 }
 
-static bool counts(unsigned n, const struct grant *grant, struct term label)
+static bool in_its_days(const struct grant *grant, uint32_t day)
 {
-    return visible(n, grant->label, label) && spoken(n, grant->label, grant->q);
+    return (grant->first == 0 || grant->first <= day) && (grant->last == 0 || day <= grant->last);
 }
 
-/* Leaves only the grants that count under the label. */
-static void keep_counting(struct grants *grants, struct term label)
+static bool counts(unsigned n, const struct grant *grant, const struct under *under)
+{
+    return in_its_days(grant, under->day) && visible(n, grant->label, under->label)
+        && spoken(n, grant->label, grant->q);
+}
+
+/* Leaves only the grants that count. */
+static void keep_counting(struct grants *grants, const struct under *under)
 {
     size_t kept = 0;
     for (size_t i = 0; i < grants->count; i++)
-        if (counts(grants->n, &grants->grant[i], label))
+        if (counts(grants->n, &grants->grant[i], under))
             grants->grant[kept++] = grants->grant[i];
     grants->count = kept;
 }
@@ -170,6 +183,11 @@ static bool sound(const struct grants *counting, enum side side, unsigned coalit
 static unsigned two_bytes(const uint8_t *bytes)
 {
     return bytes[0] * 256u + bytes[1];
+}
+
+static uint32_t four_bytes(const uint8_t *bytes)
+{
+    return (uint32_t)two_bytes(bytes) * 65536 + two_bytes(bytes + 2);
 }
 
 /* Are bytes `from` to `end` - 1 all 00? */
@@ -199,7 +217,12 @@ static bool grant_formed(const uint8_t *block)
 {
     return block[0] == 2 && term_length(block[1]) && term_length(block[2]) && term_length(block[3])
         && zeros(block, 4, 16) && zeros(block, 16u + block[1], 80) && zeros(block, 80u + block[2], 144)
-        && zeros(block, 144u + block[3], 510);
+        && zeros(block, 144u + block[3], 208) && zeros(block, 216, 510);
+}
+
+static bool edge_formed(uint32_t edge)
+{
+    return edge == 0 || real_date(edge);
 }
 
 static unsigned read_grant(unsigned n, const uint8_t *block, struct grant *grant)
@@ -211,6 +234,12 @@ static unsigned read_grant(unsigned n, const uint8_t *block, struct grant *grant
     grant->label = term_at(block + 144, block[3]);
     if (read_term(n, grant->p) || read_term(n, grant->q) || read_term(n, grant->label))
         return 14;
+    grant->first = four_bytes(block + 208);
+    grant->last = four_bytes(block + 212);
+    if (!edge_formed(grant->first) || !edge_formed(grant->last))
+        return 84;
+    if (grant->first != 0 && grant->last != 0 && grant->first > grant->last)
+        return 85;
     return 0;
 }
 
@@ -263,6 +292,11 @@ uint32_t refused(unsigned refusal)
 
 /* ---- Questions ---- */
 
+static unsigned read_day(uint32_t day)
+{
+    return real_date(day) ? 0 : 86;
+}
+
 /* A term's refusals counted from a base. */
 static unsigned read_from(unsigned base, unsigned n, struct term term)
 {
@@ -271,15 +305,17 @@ static unsigned read_from(unsigned base, unsigned n, struct term term)
 }
 
 static unsigned read_question(const uint8_t *ledger, size_t ledger_len, struct term p, struct term q,
-                              struct term label, struct grants *grants)
+                              const struct under *under, struct grants *grants)
 {
-    unsigned refusal = read_ledger(ledger, ledger_len, grants);
+    unsigned refusal = read_day(under->day);
+    if (!refusal)
+        refusal = read_ledger(ledger, ledger_len, grants);
     if (!refusal)
         refusal = read_from(20, grants->n, p);
     if (!refusal)
         refusal = read_from(30, grants->n, q);
     if (!refusal)
-        refusal = read_from(40, grants->n, label);
+        refusal = read_from(40, grants->n, under->label);
     return refusal;
 }
 
@@ -296,27 +332,31 @@ static uint32_t judge(const struct grants *counting, const struct term from[2], 
 
 /* Acts-for, or flows-to, which asks the other way round on the see side. */
 static uint32_t ask(bool flows, const uint8_t *ledger, size_t ledger_len, struct term p, struct term q,
-                    struct term label)
+                    struct under under)
 {
     struct grants grants;
-    unsigned refusal = read_question(ledger, ledger_len, p, q, label, &grants);
+    unsigned refusal = read_question(ledger, ledger_len, p, q, &under, &grants);
     if (refusal)
         return refused(refusal);
-    keep_counting(&grants, label);
+    keep_counting(&grants, &under);
     const struct term from[2] = {flows ? q : p, p}, to[2] = {flows ? p : q, q};
     return judge(&grants, from, to);
 }
 
 uint32_t reference_acts_for(const uint8_t *ledger, size_t ledger_len, const uint8_t *p, size_t p_len,
-                            const uint8_t *q, size_t q_len, const uint8_t *label, size_t label_len)
+                            const uint8_t *q, size_t q_len, const uint8_t *label, size_t label_len,
+                            uint32_t day)
 {
-    return ask(false, ledger, ledger_len, term_at(p, p_len), term_at(q, q_len), term_at(label, label_len));
+    struct under under = {term_at(label, label_len), day};
+    return ask(false, ledger, ledger_len, term_at(p, p_len), term_at(q, q_len), under);
 }
 
 uint32_t reference_flows_to(const uint8_t *ledger, size_t ledger_len, const uint8_t *p, size_t p_len,
-                            const uint8_t *q, size_t q_len, const uint8_t *label, size_t label_len)
+                            const uint8_t *q, size_t q_len, const uint8_t *label, size_t label_len,
+                            uint32_t day)
 {
-    return ask(true, ledger, ledger_len, term_at(p, p_len), term_at(q, q_len), term_at(label, label_len));
+    struct under under = {term_at(label, label_len), day};
+    return ask(true, ledger, ledger_len, term_at(p, p_len), term_at(q, q_len), under);
 }
 
 /* ---- Extract ---- */
@@ -331,18 +371,20 @@ static void write_extract(const struct grants *counting, uint8_t *buffer)
 }
 
 uint32_t reference_extract(const uint8_t *ledger, size_t ledger_len, const uint8_t *label, size_t label_len,
-                           uint8_t *buffer, size_t buffer_len)
+                           uint32_t day, uint8_t *buffer, size_t buffer_len)
 {
     struct grants grants;
-    struct term tl = term_at(label, label_len);
-    if (buffer_len != EXTRACT_SIZE)
-        return refused(51);
-    unsigned refusal = read_ledger(ledger, ledger_len, &grants);
+    struct under under = {term_at(label, label_len), day};
+    unsigned refusal = read_day(day);
+    if (!refusal && buffer_len != EXTRACT_SIZE)
+        refusal = 51;
     if (!refusal)
-        refusal = read_from(40, grants.n, tl);
+        refusal = read_ledger(ledger, ledger_len, &grants);
+    if (!refusal)
+        refusal = read_from(40, grants.n, under.label);
     if (refusal)
         return refused(refusal);
-    keep_counting(&grants, tl);
+    keep_counting(&grants, &under);
     write_extract(&grants, buffer);
     return yes();
 }
@@ -483,7 +525,8 @@ static bool meets_rule(const uint8_t *derivation, const uint8_t *step, const str
     }
 }
 
-static unsigned check_step(const uint8_t *derivation, size_t number, const struct grants *grants, struct term label)
+static unsigned check_step(const uint8_t *derivation, size_t number, const struct grants *grants,
+                           const struct under *under)
 {
     const uint8_t *step = step_at(derivation, number);
     if (!step_formed(step))
@@ -498,7 +541,7 @@ static unsigned check_step(const uint8_t *derivation, size_t number, const struc
         return 64;
     if (uses_grant(step[0]) && step[3] >= grants->count)
         return 65;
-    if (uses_grant(step[0]) && !counts(grants->n, &grants->grant[step[3]], label))
+    if (uses_grant(step[0]) && !counts(grants->n, &grants->grant[step[3]], under))
         return 66;
     if (!meets_rule(derivation, step, grants))
         return 67;
@@ -507,19 +550,21 @@ static unsigned check_step(const uint8_t *derivation, size_t number, const struc
 
 uint32_t reference_check_derivation(const uint8_t *derivation, size_t derivation_len,
                                     const uint8_t *ledger, size_t ledger_len,
-                                    const uint8_t *label, size_t label_len)
+                                    const uint8_t *label, size_t label_len, uint32_t day)
 {
     struct grants grants;
-    struct term tl = term_at(label, label_len);
-    unsigned refusal = read_ledger(ledger, ledger_len, &grants);
+    struct under under = {term_at(label, label_len), day};
+    unsigned refusal = read_day(day);
     if (!refusal)
-        refusal = read_from(40, grants.n, tl);
+        refusal = read_ledger(ledger, ledger_len, &grants);
+    if (!refusal)
+        refusal = read_from(40, grants.n, under.label);
     if (!refusal && (derivation_len % STEP != 0 || derivation_len < STEP || derivation_len > DERIVATION_MOST))
         refusal = 60;
     if (refusal)
         return refused(refusal);
     for (size_t k = 0; k < derivation_len / STEP; k++) {
-        refusal = check_step(derivation, k, &grants, tl);
+        refusal = check_step(derivation, k, &grants, &under);
         if (refusal)
             return refused_at(k, refusal);
     }
@@ -528,10 +573,10 @@ uint32_t reference_check_derivation(const uint8_t *derivation, size_t derivation
 
 struct reference_part reference_quote(const uint8_t *derivation, size_t derivation_len,
                                       const uint8_t *ledger, size_t ledger_len,
-                                      const uint8_t *label, size_t label_len, uint64_t step)
+                                      const uint8_t *label, size_t label_len, uint32_t day, uint64_t step)
 {
     struct reference_part part = {0, 0};
-    if (reference_check_derivation(derivation, derivation_len, ledger, ledger_len, label, label_len) != yes())
+    if (reference_check_derivation(derivation, derivation_len, ledger, ledger_len, label, label_len, day) != yes())
         return part;
     if (step >= derivation_len / STEP)
         return part;

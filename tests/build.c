@@ -106,6 +106,19 @@ void add_grant(struct ledger *ledger, const struct term *p, const struct term *q
     seal(ledger->bytes);
 }
 
+static void put_four_bytes(uint8_t *bytes, uint32_t value)
+{
+    put_two_bytes(bytes, value >> 16);
+    put_two_bytes(bytes + 2, value);
+}
+
+void put_days(uint8_t *block, uint32_t first, uint32_t last)
+{
+    put_four_bytes(block + 208, first);
+    put_four_bytes(block + 212, last);
+    seal(block);
+}
+
 struct term term_of_grant(const struct ledger *ledger, size_t grant, unsigned which)
 {
     const uint8_t *block = ledger->bytes + BLOCK * (grant + 1);

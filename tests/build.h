@@ -45,13 +45,16 @@ struct term joined(unsigned code, const struct term *a, const struct term *b);
 /* A text in brackets. */
 struct term in_brackets(const struct term *text);
 
-/* Block 0 of a ledger without grants; then one more grant, its terms of at most 64 codes. The checks and the
- * count are always right. */
+/* Block 0 of a ledger without grants; then one more grant without days, its terms of at most 64 codes. The checks and
+ * the count are always right. */
 void start_ledger(struct ledger *ledger, unsigned n);
 void add_grant(struct ledger *ledger, const struct term *p, const struct term *q, const struct term *label);
 
 size_t grant_count(const struct ledger *ledger);
 uint8_t *block_of(struct ledger *ledger, size_t block);
+
+/* The first and last day of a grant's block, with the check made right. */
+void put_days(uint8_t *block, uint32_t first, uint32_t last);
 
 /* Makes the check of a block right. */
 void seal(uint8_t *block);

@@ -3,15 +3,15 @@
 #include "reference.h"
 
 const char *const operation_names[OPERATIONS] = {
-    "acts-for", "flows-to", "extract", "short form", "derivation", "quoting", "read text", "write term",
+    "acts-for", "flows-to", "extract", "short form", "derivation", "quoting", "read text", "write term", "add days",
 };
 
 const enum operation all_operations[OPERATIONS] = {
-    ACTS_FOR, FLOWS_TO, EXTRACT, SHORT_FORM, DERIVATION, QUOTE, READ_TEXT, WRITE_TERM,
+    ACTS_FOR, FLOWS_TO, EXTRACT, SHORT_FORM, DERIVATION, QUOTE, READ_TEXT, WRITE_TERM, ADD_DAYS,
 };
 
 const enum operation performed[PERFORMED] = {
-    ACTS_FOR, FLOWS_TO, EXTRACT, SHORT_FORM, DERIVATION, READ_TEXT, WRITE_TERM,
+    ACTS_FOR, FLOWS_TO, EXTRACT, SHORT_FORM, DERIVATION, READ_TEXT, WRITE_TERM, ADD_DAYS,
 };
 
 size_t buffer_length_of(enum operation operation)
@@ -32,7 +32,7 @@ size_t buffer_length_of(enum operation operation)
 
 const struct engine reference_engine = {
     "reference", reference_acts_for, reference_flows_to, reference_extract, reference_short_form,
-    reference_check_derivation, reference_read_text, reference_write_term,
+    reference_check_derivation, reference_read_text, reference_write_term, reference_add_days,
 };
 
 static struct slice slice_of_term(const struct term *term)
@@ -50,6 +50,7 @@ struct request request_of(const struct call *call, uint8_t *buffer)
         .q = slice_of_term(&call->q),
         .label = slice_of_term(&call->label),
         .derivation = {call->derivation.bytes, call->derivation.length},
+        .day = call->day,
         .number = call->number,
         .buffer = buffer,
         .buffer_length = call->buffer_length,
@@ -60,7 +61,7 @@ struct request request_of(const struct call *call, uint8_t *buffer)
 static uint32_t ask(question_call *question, const struct request *r)
 {
     return question(r->ledger.bytes, r->ledger.length, r->p.bytes, r->p.length, r->q.bytes, r->q.length,
-                    r->label.bytes, r->label.length);
+                    r->label.bytes, r->label.length, r->day);
 }
 
 static uint32_t write_from_p(writing_call *call, const struct request *r)
@@ -76,7 +77,7 @@ uint32_t perform(const struct engine *engine, const struct request *r)
     case FLOWS_TO:
         return ask(engine->flows_to, r);
     case EXTRACT:
-        return engine->extract(r->ledger.bytes, r->ledger.length, r->label.bytes, r->label.length, r->buffer,
+        return engine->extract(r->ledger.bytes, r->ledger.length, r->label.bytes, r->label.length, r->day, r->buffer,
                                r->buffer_length);
     case SHORT_FORM:
         return write_from_p(engine->short_form, r);
@@ -84,8 +85,16 @@ uint32_t perform(const struct engine *engine, const struct request *r)
         return write_from_p(engine->read_text, r);
     case WRITE_TERM:
         return write_from_p(engine->write_term, r);
+    case ADD_DAYS:
+        return engine->add_days(r->day, (uint32_t)r->number);
     default:
         return engine->check_derivation(r->derivation.bytes, r->derivation.length, r->ledger.bytes,
-                                        r->ledger.length, r->label.bytes, r->label.length);
+                                        r->ledger.length, r->label.bytes, r->label.length, r->day);
     }
+}
+
+enum kind kind_of(uint32_t number)
+{
+    uint32_t kind = number / PER_KIND;
+    return kind > REFUSED ? YES : (enum kind)kind;
 }

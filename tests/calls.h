@@ -7,11 +7,11 @@
 
 #include "build.h"
 
-enum operation { ACTS_FOR, FLOWS_TO, EXTRACT, SHORT_FORM, DERIVATION, QUOTE, READ_TEXT, WRITE_TERM };
+enum operation { ACTS_FOR, FLOWS_TO, EXTRACT, SHORT_FORM, DERIVATION, QUOTE, READ_TEXT, WRITE_TERM, ADD_DAYS };
 
 enum {
     C_OPERATIONS = 5, /* those that C calls: the first */
-    OPERATIONS = 8,
+    OPERATIONS = 9,
     PERFORMED = OPERATIONS - 1, /* those that `perform` makes: all but quoting */
     BUFFER_ROOM = 20000
 };
@@ -31,7 +31,8 @@ struct call {
     struct term q;
     struct term label;
     struct derivation derivation;
-    uint64_t number; /* n of a short form, of reading and of writing; the step that is quoted */
+    uint32_t day;    /* of adding days: the date */
+    uint64_t number; /* n of a short form, of reading and of writing; the step that is quoted; the days to add */
     size_t buffer_length;
     uint8_t fill; /* every byte of the buffer before the call */
 };
@@ -45,6 +46,7 @@ struct slice {
 struct request {
     enum operation operation;
     struct slice ledger, p, q, label, derivation;
+    uint32_t day;
     uint64_t number;
     uint8_t *buffer;
     size_t buffer_length;
@@ -54,10 +56,11 @@ struct request {
 struct request request_of(const struct call *call, uint8_t *buffer);
 
 typedef uint32_t question_call(const uint8_t *, size_t, const uint8_t *, size_t, const uint8_t *, size_t,
-                               const uint8_t *, size_t);
-typedef uint32_t extract_call(const uint8_t *, size_t, const uint8_t *, size_t, uint8_t *, size_t);
+                               const uint8_t *, size_t, uint32_t);
+typedef uint32_t extract_call(const uint8_t *, size_t, const uint8_t *, size_t, uint32_t, uint8_t *, size_t);
 typedef uint32_t writing_call(uint64_t, const uint8_t *, size_t, uint8_t *, size_t);
-typedef uint32_t derivation_call(const uint8_t *, size_t, const uint8_t *, size_t, const uint8_t *, size_t);
+typedef uint32_t derivation_call(const uint8_t *, size_t, const uint8_t *, size_t, const uint8_t *, size_t, uint32_t);
+typedef uint32_t adding_call(uint32_t, uint32_t);
 
 struct engine {
     const char *name;
@@ -66,7 +69,9 @@ struct engine {
     extract_call *extract;
     writing_call *short_form;
     derivation_call *check_derivation;
-    writing_call *read_text, *write_term; /* null in an engine without the calls of trials.h */
+    /* null in an engine without the calls of trials.h */
+    writing_call *read_text, *write_term;
+    adding_call *add_days;
 };
 
 extern const struct engine reference_engine;
@@ -74,5 +79,8 @@ extern const struct engine library_engine; /* in library.c, the one file here th
 
 /* Makes the call, any but quoting. */
 uint32_t perform(const struct engine *engine, const struct request *request);
+
+/* The kind of an answer by its number. Adding days gives a date, which is above all other numbers: a yes too. */
+enum kind kind_of(uint32_t number);
 
 #endif

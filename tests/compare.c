@@ -1,5 +1,6 @@
 /*
- * The library against the reference on random calls: the number and every byte of the buffer.
+ * The library against the reference on random calls: the number and every byte of the buffer. Before these, days are
+ * added to every date.
  *
  *     compare [CALLS [SEED [SECONDS]]]
  *
@@ -126,7 +127,8 @@ static void print_difference(const struct request *r, uint32_t expected, uint32_
 {
     printf("%s: reference %lu, library %lu%s\n", operation_names[r->operation], (unsigned long)expected,
            (unsigned long)got, expected == got ? ", other bytes in the buffer or in an input" : "");
-    printf("  number %llu, buffer of %zu bytes\n", (unsigned long long)r->number, r->buffer_length);
+    printf("  day %lu, number %llu, buffer of %zu bytes\n", (unsigned long)r->day, (unsigned long long)r->number,
+           r->buffer_length);
     print_slice("ledger", r->ledger);
     print_slice("p", r->p);
     print_slice("q", r->q);
@@ -212,6 +214,7 @@ static void good_call(struct call *call, enum operation operation)
     memset(call, 0, sizeof *call);
     call->operation = operation;
     call->p = call->q = call->label = one_code(0);
+    call->day = 20240131;
     call->number = 2;
     call->buffer_length = buffer_length_of(operation);
     start_ledger(&call->ledger, 2);
@@ -254,6 +257,22 @@ static unsigned long compare_huge_lengths(void)
     return differences;
 }
 
+/* ---- Every date ---- */
+
+/* Adds so many days to every number from before the first real date to behind the last. */
+static unsigned long compare_dates(uint32_t count)
+{
+    struct request r = {.operation = ADD_DAYS, .day = 10000 * (FIRST_YEAR - 1), .number = count};
+    unsigned long differences = 0;
+    for (; r.day < 10000 * (LAST_YEAR + 2) && differences < DIFFERENCES_SHOWN; r.day++) {
+        uint32_t got = perform(&library_engine, &r), expected = perform(&reference_engine, &r);
+        if (got != expected)
+            print_difference(&r, expected, got);
+        differences += got != expected;
+    }
+    return differences;
+}
+
 static unsigned long argument(int count, char **arguments, int place, unsigned long otherwise)
 {
     return count > place ? strtoul(arguments[place], NULL, 10) : otherwise;
@@ -267,7 +286,7 @@ int main(int count, char **arguments)
     run.seed = argument(count, arguments, 2, 1);
     run.seconds = argument(count, arguments, 3, 110);
     double start = seconds_now();
-    run.differences = compare_huge_lengths();
+    run.differences = compare_huge_lengths() + compare_dates(0) + compare_dates(1) + compare_dates(DAYS_ADDED_MOST);
     compare_random_calls(&fences, &run);
     unsigned missing = print_coverage(&run.coverage, performed, PERFORMED, stdout);
     printf("library and reference: %lu of %lu calls of seed %lu in %.1f s, %lu differ, %u answers never met\n",

@@ -2,13 +2,14 @@
 
 /* The refusals of each operation, as the documents list them; 0 ends a list. */
 static const uint8_t refusals[OPERATIONS][24] = {
-    [ACTS_FOR] = {10, 11, 12, 13, 14, 21, 22, 23, 24, 31, 32, 33, 34, 41, 42, 43, 44},
-    [FLOWS_TO] = {10, 11, 12, 13, 14, 21, 22, 23, 24, 31, 32, 33, 34, 41, 42, 43, 44},
-    [EXTRACT] = {51, 10, 11, 12, 13, 14, 41, 42, 43, 44},
+    [ACTS_FOR] = {86, 10, 11, 12, 13, 14, 84, 85, 21, 22, 23, 24, 31, 32, 33, 34, 41, 42, 43, 44},
+    [FLOWS_TO] = {86, 10, 11, 12, 13, 14, 84, 85, 21, 22, 23, 24, 31, 32, 33, 34, 41, 42, 43, 44},
+    [EXTRACT] = {86, 51, 10, 11, 12, 13, 14, 84, 85, 41, 42, 43, 44},
     [SHORT_FORM] = {7, 8, 1, 2, 3, 4},
-    [DERIVATION] = {10, 11, 12, 13, 14, 41, 42, 43, 44, 60, 61, 62, 63, 64, 65, 66, 67},
+    [DERIVATION] = {86, 10, 11, 12, 13, 14, 84, 85, 41, 42, 43, 44, 60, 61, 62, 63, 64, 65, 66, 67},
     [READ_TEXT] = {7, 81, 82, 83},
     [WRITE_TERM] = {7, 81, 1, 2, 3, 4},
+    [ADD_DAYS] = {86},
 };
 
 bool is_refusal(unsigned number)
@@ -22,9 +23,9 @@ bool is_refusal(unsigned number)
 
 void count_answer(struct coverage *coverage, enum operation operation, uint32_t number)
 {
-    if (number / PER_KIND == YES)
+    if (kind_of(number) == YES)
         coverage->yes[operation]++;
-    else if (number / PER_KIND == NO)
+    else if (kind_of(number) == NO)
         coverage->no[operation][number / PER_SIDE % 2]++;
     else
         coverage->refused[operation][number % PER_STEP]++;
@@ -60,13 +61,14 @@ static unsigned print_refusals(const struct coverage *coverage, unsigned operati
 static unsigned print_operation(const struct coverage *coverage, unsigned operation, FILE *to)
 {
     bool question = operation == ACTS_FOR || operation == FLOWS_TO;
+    const char *yes = question ? "yes" : operation == ADD_DAYS ? "a date" : "accepted or written";
     unsigned missing = 0;
     fprintf(to, "%-11s", operation_names[operation]);
     if (operation == QUOTE) {
         missing += print_count("a part", coverage->yes[operation], to);
         missing += print_count("an empty part", coverage->no[operation][0], to);
     } else {
-        missing += print_count(question ? "yes" : "accepted or written", coverage->yes[operation], to);
+        missing += print_count(yes, coverage->yes[operation], to);
     }
     if (question) {
         missing += print_count("no, see", coverage->no[operation][0], to);

@@ -10,7 +10,7 @@
 #include <stdio.h>
 
 struct coverage {
-    unsigned long yes[OPERATIONS];   /* of quoting: a part */
+    unsigned long yes[OPERATIONS];   /* of quoting: a part; of adding days: a date */
     unsigned long no[OPERATIONS][2]; /* by side; of quoting the first: an empty part */
     unsigned long refused[OPERATIONS][256];
 };

@@ -12,8 +12,9 @@
  * An unpacked record, at most 65,536 bytes, is
  *
  *      0  4 bytes  the operation: 0 acts-for, 1 flows-to, 2 extract, 3 short form, 4 derivation, 5 quoting,
- *                  6 reading a text, 7 writing a term
- *      4  8 bytes  n of a short form, of reading and of writing; the step of quoting; else 0
+ *                  6 reading a text, 7 writing a term, 8 adding days
+ *      4  8 bytes  n of a short form, of reading and of writing; the step of quoting; of adding days, the count;
+ *                  else 0
  *     12  4 bytes  the length of the ledger
  *     16  4 bytes  the length of p: of a short form and of writing, the term; of reading, the text
  *     20  4 bytes  the length of q
@@ -24,10 +25,11 @@
  *     40  4 bytes  the expected number; of quoting, where the expected part starts in the ledger
  *     44  4 bytes  how many bytes the buffer is expected to start with; behind them it is as it was before.
  *                  Of quoting, the length of the expected part
- *     48           the ledger, p, q, the label, the derivation, then the bytes that the buffer is expected to
+ *     48  4 bytes  the day; of adding days, the date
+ *     52           the ledger, p, q, the label, the derivation, then the bytes that the buffer is expected to
  *                  start with (of quoting: none)
  *
- * What an operation doesn't take has length 0.
+ * What an operation doesn't take has length 0; a day that it doesn't take is 0.
  */
 #include "coverage.h"
 #include "random_calls.h"
@@ -36,7 +38,7 @@
 #include <stdbool.h>
 #include <string.h>
 
-enum { CALLS = 5600, SEED = 2, RECORD_ROOM = 65536, SMALL = 700, FILE_MOST = 2000000 };
+enum { CALLS = 6300, SEED = 2, RECORD_ROOM = 65536, SMALL = 700, FILE_MOST = 2000000 };
 
 struct record {
     size_t length;
@@ -69,7 +71,8 @@ struct result {
 static struct result quoted(const struct request *r)
 {
     struct reference_part part = reference_quote(r->derivation.bytes, r->derivation.length, r->ledger.bytes,
-                                                 r->ledger.length, r->label.bytes, r->label.length, r->number);
+                                                 r->ledger.length, r->label.bytes, r->label.length, r->day,
+                                                 r->number);
     struct result result = {part.offset, part.length};
     return result;
 }
@@ -77,7 +80,7 @@ static struct result quoted(const struct request *r)
 static struct result answered(const struct request *r)
 {
     struct result result = {perform(&reference_engine, r), 0};
-    if (result.number / PER_KIND == YES) /* the number is the length; only that of an extract is not */
+    if (result.number / PER_KIND == YES) /* the number is the length, but of an extract; a date is no such number */
         result.length = r->operation == EXTRACT ? EXTRACT_SIZE : (size_t)result.number;
     return result;
 }
@@ -96,6 +99,7 @@ static void make_record(struct record *record, const struct call *call, const st
     put_number(record, call->fill, 4);
     put_number(record, result.number, 4);
     put_number(record, result.length, 4);
+    put_number(record, r->day, 4);
     put_slice(record, r->ledger);
     put_slice(record, r->p);
     put_slice(record, r->q);

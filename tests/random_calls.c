@@ -448,7 +448,93 @@ static void damage_text(struct source *s, struct term *text, unsigned n)
     }
 }
 
+/* ---- Dates ---- */
+
+/* A day and the next one. */
+struct days {
+    uint32_t day, next;
+};
+
+/* Mostly where a month ends, or a year, or the dates. */
+static struct days random_days(struct source *s)
+{
+    static const struct days ends[] = {
+        {19000101, 19000102}, {19000131, 19000201}, {19000228, 19000301}, {19991231, 20000101}, {20000228, 20000229},
+        {20000229, 20000301}, {20230228, 20230301}, {20231231, 20240101}, {20240131, 20240201}, {20240228, 20240229},
+        {20240229, 20240301}, {20240430, 20240501}, {20990228, 20990301}, {21000228, 21000301}, {21981231, 21990101},
+        {21991230, 21991231},
+    };
+    unsigned count = sizeof ends / sizeof *ends, draw = below(s, count + count / 2), date;
+    if (draw < count)
+        return ends[draw];
+    date = 10000 * edge_or_between(s, FIRST_YEAR, LAST_YEAR);
+    date += 100 * between(s, 1, 12);
+    date += between(s, 1, 27);
+    return (struct days){date, date + 1};
+}
+
+static uint32_t one_of(struct source *s, const struct days *days)
+{
+    return one_in(s, 2) ? days->day : days->next;
+}
+
+/* The number that the same four bytes give, read from the other end. */
+static uint32_t read_backwards(uint32_t date)
+{
+    return date >> 24 | (date >> 8 & 0xFF00) | (date << 8 & 0xFF0000) | date << 24;
+}
+
+/* A year, a month and a day, each often one that is just not real. */
+static uint32_t nearly_real_date(struct source *s)
+{
+    uint32_t date = 10000 * edge_or_between(s, FIRST_YEAR - 1, LAST_YEAR + 1);
+    date += 100 * edge_or_between(s, 0, 13);
+    return date + edge_or_between(s, 0, 32);
+}
+
+/* Mostly not real. */
+static uint32_t doubtful_date(struct source *s)
+{
+    static const uint32_t dates[] = {1, 131, 10101, 18991231, 19000001, 19000229, 19960229, 20000229, 20000230,
+                                     20230229, 20230431, 20230631, 20230931, 20231131, 20231232, 20231301, 20240100,
+                                     20240132, 20240229, 20240230, 20249999, 21000229, 21960229, 22000101, UINT32_MAX};
+    struct days days = random_days(s);
+    switch (below(s, 8)) {
+    case 0:
+        return days.day ^ 1u << between(s, 0, 31);
+    case 1:
+        return read_backwards(days.day);
+    case 2:
+        return (uint32_t)next(s);
+    case 3:
+    case 4:
+        return nearly_real_date(s);
+    case 5:
+        return 0;
+    default:
+        return dates[below(s, sizeof dates / sizeof *dates)];
+    }
+}
+
 /* ---- Ledgers ---- */
+
+/* An edge of a grant's days: none, one of these two days, or some day. */
+static uint32_t random_edge(struct source *s, const struct days *days)
+{
+    struct days others = random_days(s);
+    unsigned draw = below(s, 4);
+    return draw == 0 ? 0 : draw == 1 ? days->day : draw == 2 ? days->next : others.day;
+}
+
+/* Days in their order. */
+static void put_random_days(struct source *s, uint8_t *block, const struct days *days)
+{
+    uint32_t first = random_edge(s, days), last = random_edge(s, days);
+    if (last == 0 || first <= last)
+        put_days(block, first, last);
+    else
+        put_days(block, last, first);
+}
 
 static struct term random_grant_label(struct source *s, unsigned n, const struct term *q)
 {
@@ -495,15 +581,20 @@ static unsigned random_grant_count(struct source *s, unsigned n)
     return one_in(s, 3) ? GRANTS : below(s, GRANTS + 1);
 }
 
-static void random_ledger(struct source *s, struct ledger *ledger, unsigned n)
+/* In two of three ledgers half of the grants have days, many beginning or ending at one of these two. */
+static void random_ledger(struct source *s, struct ledger *ledger, unsigned n, const struct days *days)
 {
     unsigned count = random_grant_count(s, n);
+    bool dated = !one_in(s, 3);
     start_ledger(ledger, n);
-    for (unsigned i = 0; i < count; i++)
+    for (unsigned i = 0; i < count; i++) {
         if (i > 0 && i + 1 < count && count > 9 && !one_in(s, 16))
             add_last_grant_again(ledger); /* many different ones would leave nothing sound */
         else
             add_random_grant(s, ledger, n);
+        if (dated && one_in(s, 2))
+            put_random_days(s, block_of(ledger, i + 1), days);
+    }
 }
 
 /* ---- Damaged ledgers ---- */
@@ -562,7 +653,7 @@ static unsigned filler_place(struct source *s, const uint8_t *block)
     case 0:
         return edge_or_between(s, 4, 15);
     case 1:
-        return edge_or_between(s, 208, 509);
+        return edge_or_between(s, 216, 509);
     case 2:
         return 16 + 64 * which + block[1 + which];
     default:
@@ -591,10 +682,34 @@ static void damage_term_of_grant(struct source *s, uint8_t *block, unsigned n)
     damage_field(s, block + 16 + 64 * which, &block[1 + which], n);
 }
 
+/* One of the dates is doubtful, or both; or they are real and in the wrong order; or a byte is another. */
+static void damage_days(struct source *s, uint8_t *block)
+{
+    struct days days = random_days(s);
+    uint32_t doubtful = doubtful_date(s), other = doubtful_date(s);
+    unsigned place = between(s, 208, 215);
+    switch (below(s, 6)) {
+    case 0:
+        put_days(block, doubtful, one_in(s, 2) ? 0 : days.next);
+        break;
+    case 1:
+        put_days(block, one_in(s, 2) ? 0 : days.day, doubtful);
+        break;
+    case 2:
+        put_days(block, doubtful, other);
+        break;
+    case 3:
+        block[place] ^= nonzero_byte(s);
+        break;
+    default:
+        put_days(block, days.next, days.day);
+    }
+}
+
 static void damage_grant(struct source *s, uint8_t *block, unsigned n)
 {
     unsigned place;
-    switch (below(s, 5)) {
+    switch (below(s, 8)) {
     case 0:
         block[0] = one_in(s, 2) ? 1 : any_byte(s);
         break;
@@ -606,8 +721,12 @@ static void damage_grant(struct source *s, uint8_t *block, unsigned n)
         place = filler_place(s, block);
         block[place] = nonzero_byte(s);
         break;
-    default:
+    case 3:
+    case 4:
         damage_term_of_grant(s, block, n);
+        break;
+    default:
+        damage_days(s, block);
     }
     seal(block);
 }
@@ -626,13 +745,12 @@ static void damage_ledger(struct source *s, struct ledger *ledger, unsigned n)
     unsigned blocks = (unsigned)(ledger->length / BLOCK), block, place;
     if (blocks == 0)
         return;
-    block = below(s, blocks);
-    switch (below(s, 8)) {
+    switch (below(s, 10)) {
     case 0:
         spoil_ledger_length(s, ledger);
         break;
     case 1:
-        damage_check(block_of(ledger, block));
+        damage_check(block_of(ledger, below(s, blocks)));
         break;
     case 2: /* any byte, without a new check */
         place = below(s, (unsigned)ledger->length);
@@ -643,7 +761,13 @@ static void damage_ledger(struct source *s, struct ledger *ledger, unsigned n)
         damage_header(s, block_of(ledger, 0));
         break;
     default:
-        if (block > 0)
+        if (blocks == 1)
+            break;
+        block = between(s, 1, blocks - 1);
+        damage_grant(s, block_of(ledger, block), n);
+        if (block + 1 < blocks && one_in(s, 2))
+            block++;
+        if (one_in(s, 3)) /* once more, there or in the next grant: which refusal comes first? */
             damage_grant(s, block_of(ledger, block), n);
     }
 }
@@ -1032,6 +1156,31 @@ static void random_writing(struct source *s, struct call *call)
         damage_term(s, &call->p, n);
 }
 
+static unsigned random_count_of_days(struct source *s)
+{
+    unsigned draw = below(s, 4);
+    if (draw == 0)
+        return below(s, 64);
+    return edge_or_between(s, draw == 1 ? 364 : 0, DAYS_ADDED_MOST);
+}
+
+static void random_adding(struct source *s, struct call *call)
+{
+    static const uint32_t bad_counts[] = {367, 368, 622, 65536, 65566, 0x1000001, 0x80000000, UINT32_MAX};
+    struct days days = random_days(s);
+    unsigned left = below(s, 31);
+    call->day = one_of(s, &days);
+    call->number = random_count_of_days(s);
+    if (one_in(s, 8)) { /* just to the last real date, or one day more */
+        call->day = 21991231 - left;
+        call->number = left + below(s, 2);
+    }
+    if (one_in(s, 12))
+        call->number = bad_counts[below(s, sizeof bad_counts / sizeof *bad_counts)];
+    if (one_in(s, 8))
+        call->day = doubtful_date(s);
+}
+
 static void random_extract(struct source *s, struct call *call)
 {
     static const uint16_t bad_lengths[8] = {0, 1, 512, 1023, 1025, 2048, 3700, 8192};
@@ -1041,7 +1190,9 @@ static void random_extract(struct source *s, struct call *call)
 static void random_call_on_ledger(struct source *s, struct call *call)
 {
     unsigned n = random_names(s);
-    random_ledger(s, &call->ledger, n);
+    struct days days = random_days(s);
+    call->day = one_in(s, 16) ? doubtful_date(s) : one_of(s, &days);
+    random_ledger(s, &call->ledger, n, &days);
     call->label = random_label(s, &call->ledger, n);
     maybe_damage_term(s, &call->label, n);
     if (call->operation == ACTS_FOR || call->operation == FLOWS_TO) {
@@ -1064,6 +1215,7 @@ void random_call(struct source *s, enum operation operation, struct call *call)
     call->operation = operation;
     call->p.length = call->q.length = call->label.length = call->ledger.length = call->derivation.length = 0;
     call->buffer_length = buffer_length_of(operation);
+    call->day = 0;
     call->number = 0;
     call->fill = any_byte(s);
     if (operation == SHORT_FORM)
@@ -1072,6 +1224,8 @@ void random_call(struct source *s, enum operation operation, struct call *call)
         random_reading(s, call);
     else if (operation == WRITE_TERM)
         random_writing(s, call);
+    else if (operation == ADD_DAYS)
+        random_adding(s, call);
     else
         random_call_on_ledger(s, call);
 }

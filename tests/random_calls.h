@@ -1,5 +1,5 @@
 /*
- * Random calls, the same for the same seed on every machine: good, damaged and hostile ledgers, labels,
+ * Random calls, the same for the same seed on every machine: good, damaged and hostile ledgers, labels, days,
  * terms, texts, buffers and derivations, of all n and all refusals.
  */
 #ifndef RANDOM_CALLS_H

@@ -85,11 +85,14 @@ static void deepest_call(enum operation operation, enum shape shape, struct call
     call->operation = operation;
     call->q = call->label = term;
     call->p = operation == READ_TEXT ? deepest_text(shape) : term;
-    call->number = NAMES;
+    call->day = 20240131;
+    call->number = operation == ADD_DAYS ? DAYS_ADDED_MOST : NAMES;
     call->buffer_length = buffer_length_of(operation);
     start_ledger(&call->ledger, NAMES);
-    for (unsigned i = 0; i < GRANTS; i++)
+    for (unsigned i = 0; i < GRANTS; i++) {
         add_grant(&call->ledger, &term, &term, &term);
+        put_days(block_of(&call->ledger, i + 1), call->day, call->day);
+    }
     for (unsigned i = 0; i < STEPS; i++)
         add_step(&call->derivation, 1 + i % 2, 0, 0, 0, &term, &term);
 }

@@ -1,12 +1,15 @@
 /*
- * The worked cases A to L of document 01, and of document 02 the short form's buffer by K12 and the notation by K1, on
- * the reference and on the library.
+ * The worked cases A to L of document 01, and of document 02 the short form's buffer by K12, the notation by K1 and days
+ * by K2, on the reference and on the library.
  */
 #include "calls.h"
 
 #include <stdbool.h>
 #include <stdio.h>
 #include <string.h>
+
+/* On which the cases of document 01 are asked; their grants have no days. */
+enum { SOME_DAY = 20240131 };
 
 static unsigned failures;
 
@@ -44,11 +47,17 @@ static struct ledger granted(const char *label)
     return ledger;
 }
 
+static uint32_t ask_on(question_call *question, const struct ledger *ledger, const char *p, const char *q,
+                       const char *label, uint32_t day)
+{
+    struct term tp = codes(p), tq = codes(q), tl = codes(label);
+    return question(ledger->bytes, ledger->length, tp.codes, tp.length, tq.codes, tq.length, tl.codes, tl.length, day);
+}
+
 static uint32_t ask(question_call *question, const struct ledger *ledger, const char *p, const char *q,
                     const char *label)
 {
-    struct term tp = codes(p), tq = codes(q), tl = codes(label);
-    return question(ledger->bytes, ledger->length, tp.codes, tp.length, tq.codes, tq.length, tl.codes, tl.length);
+    return ask_on(question, ledger, p, q, label, SOME_DAY);
 }
 
 static uint32_t yes(void)
@@ -59,6 +68,11 @@ static uint32_t yes(void)
 static uint32_t no_on_see_side(unsigned coalition)
 {
     return NO * PER_KIND + SEE * PER_SIDE + coalition;
+}
+
+static uint32_t no_on_change_side(unsigned coalition)
+{
+    return NO * PER_KIND + CHANGE * PER_SIDE + coalition;
 }
 
 static uint32_t refused(unsigned refusal)
@@ -101,21 +115,21 @@ static void cases_of_flows_to(const struct engine *e)
 }
 
 /* Bytes 0 and 512 have this value, the rest is 00. */
-static bool extract_is(const struct engine *e, const struct ledger *ledger, uint8_t value)
+static bool extract_is(const struct engine *e, const struct ledger *ledger, uint32_t day, uint8_t value)
 {
     uint8_t buffer[EXTRACT_SIZE], expected[EXTRACT_SIZE] = {0};
     struct term label = codes("41 01");
     memset(buffer, 0xAA, sizeof buffer);
     expected[0] = expected[512] = value;
-    return e->extract(ledger->bytes, ledger->length, label.codes, label.length, buffer, sizeof buffer) == yes()
+    return e->extract(ledger->bytes, ledger->length, label.codes, label.length, day, buffer, sizeof buffer) == yes()
         && memcmp(buffer, expected, sizeof buffer) == 0;
 }
 
 static void case_of_extract(const struct engine *e)
 {
     struct ledger l = granted("41 01"), p = plain();
-    expect(e, "H", extract_is(e, &l, 0x0D));
-    expect(e, "H", extract_is(e, &p, 0x0F));
+    expect(e, "H", extract_is(e, &l, SOME_DAY, 0x0D));
+    expect(e, "H", extract_is(e, &p, SOME_DAY, 0x0F));
 }
 
 /* On a buffer of this length the call gives the number and writes the expected bytes; all others are kept. */
@@ -353,6 +367,238 @@ static void cases_of_writing(const struct engine *e)
     refuses_term(e, 13, "00", TEXT_MOST, 7);
 }
 
+/* ---- K2: grants with a first and last day ---- */
+
+/* The label of Granted, under which its grant counts. */
+static const char own_word[] = "41 01";
+
+static struct ledger granted_for(uint32_t first, uint32_t last)
+{
+    struct ledger ledger = granted(own_word);
+    put_days(block_of(&ledger, 1), first, last);
+    return ledger;
+}
+
+/* Granted with these days, asked on a day. */
+static uint32_t asked_on(const struct engine *e, uint32_t first, uint32_t last, uint32_t day)
+{
+    struct ledger ledger = granted_for(first, last);
+    return ask_on(e->acts_for, &ledger, "00", "01", own_word, day);
+}
+
+static void inside(const struct engine *e, uint32_t first, uint32_t last, uint32_t day)
+{
+    expect(e, "K2", asked_on(e, first, last, day) == yes());
+}
+
+static void outside(const struct engine *e, uint32_t first, uint32_t last, uint32_t day)
+{
+    expect(e, "K2", asked_on(e, first, last, day) == no_on_see_side(1));
+}
+
+/* Both edges are inside, and an end without an edge is open. */
+static void cases_of_edges(const struct engine *e)
+{
+    inside(e, 0, 20240131, 20240131);
+    outside(e, 0, 20240131, 20240201);
+    inside(e, 0, 20240131, 19000101);
+    outside(e, 20240131, 0, 20240130);
+    inside(e, 20240131, 0, 20240131);
+    inside(e, 20240131, 0, 21991231);
+    outside(e, 20240101, 20240131, 20231231);
+    inside(e, 20240101, 20240131, 20240101);
+    inside(e, 20240101, 20240131, 20240131);
+    outside(e, 20240101, 20240131, 20240201);
+    outside(e, 20240229, 20240229, 20240228);
+    inside(e, 20240229, 20240229, 20240229);
+    outside(e, 20240229, 20240229, 20240301);
+    inside(e, 0, 0, 19000101);
+    inside(e, 0, 0, 21991231);
+    inside(e, 19000101, 21991231, 19000101);
+    inside(e, 19000101, 21991231, 21991231);
+}
+
+static void case_of_block(const struct engine *e)
+{
+    static const uint8_t days[8] = {0x01, 0x34, 0xD6, 0xE5, 0x01, 0x34, 0xD7, 0x03};
+    struct ledger l = granted_for(20240101, 20240131);
+    expect(e, "K2", memcmp(block_of(&l, 1) + 208, days, sizeof days) == 0 && check_is(&l, 1, 0xA2, 0xC6));
+}
+
+/* As a day of a call the number is refused if it is not real. As a grant's first or last it is so too, but for 0. */
+static void judges_date(const struct engine *e, uint32_t date, bool real)
+{
+    struct ledger l = plain();
+    expect(e, "K2", ask_on(e->acts_for, &l, "00", "00", "21", date) == (real ? yes() : refused(86)));
+    expect(e, "K2", e->add_days(date, 0) == (real ? date : refused(86)));
+    expect(e, "K2", (asked_on(e, date, 0, SOME_DAY) == refused(84)) == (!real && date != 0));
+    expect(e, "K2", (asked_on(e, 0, date, SOME_DAY) == refused(84)) == (!real && date != 0));
+}
+
+static void cases_of_months(const struct engine *e)
+{
+    static const uint8_t days[13] = {0, 31, 28, 31, 30, 31, 30, 31, 31, 30, 31, 30, 31};
+    for (uint32_t month = 1; month <= 12; month++) {
+        uint32_t before_first = 20230000 + 100 * month;
+        judges_date(e, before_first, false);
+        judges_date(e, before_first + 1, true);
+        judges_date(e, before_first + days[month], true);
+        judges_date(e, before_first + days[month] + 1, false);
+    }
+}
+
+static void cases_of_dates(const struct engine *e)
+{
+    static const uint32_t real[] = {19000101, 19000228, 19040229, 20000229, 20240229, 21000228, 21960229, 21991231};
+    static const uint32_t not_real[] = {0, 1, 101, 18991231, 19000229, 20000230, 20230001, 20231301, 20240230, 21000229,
+                                        22000101, 0x8134D703, 0x03D73401, UINT32_MAX};
+    for (unsigned i = 0; i < sizeof real / sizeof *real; i++)
+        judges_date(e, real[i], true);
+    for (unsigned i = 0; i < sizeof not_real / sizeof *not_real; i++)
+        judges_date(e, not_real[i], false);
+}
+
+/* What Granted with these days is refused by; 0 if it isn't. */
+static uint32_t refusal_of_days(const struct engine *e, uint32_t first, uint32_t last)
+{
+    uint32_t number = asked_on(e, first, last, SOME_DAY);
+    return kind_of(number) == REFUSED ? number % PER_KIND : 0;
+}
+
+static void cases_of_order_of_days(const struct engine *e)
+{
+    expect(e, "K2", refusal_of_days(e, 20240201, 20240131) == 85);
+    expect(e, "K2", refusal_of_days(e, 20240131, 20240131) == 0);
+    expect(e, "K2", refusal_of_days(e, 20240131, 0) == 0);
+    expect(e, "K2", refusal_of_days(e, 0, 20240131) == 0);
+    expect(e, "K2", refusal_of_days(e, 20240230, 20240131) == 84);
+    expect(e, "K2", refusal_of_days(e, 20240201, 20240132) == 84);
+    expect(e, "K2", refusal_of_days(e, 20240132, 20240230) == 84);
+}
+
+/* Another byte in a block, with the check made right. */
+static void put_byte(struct ledger *ledger, unsigned block, unsigned place, uint8_t value)
+{
+    block_of(ledger, block)[place] = value;
+    seal(block_of(ledger, block));
+}
+
+/* Granted twice over, of which one grant gets bad days and a byte of one is another. */
+static uint32_t with_two_damages(const struct engine *e, unsigned dated, uint32_t first, uint32_t last, unsigned grant,
+                                 unsigned place, uint8_t value)
+{
+    struct ledger ledger = granted(own_word);
+    struct term p = codes("00"), q = codes("01"), d = codes(own_word);
+    add_grant(&ledger, &p, &q, &d);
+    put_days(block_of(&ledger, dated + 1), first, last);
+    put_byte(&ledger, grant + 1, place, value);
+    return ask(e->acts_for, &ledger, "00", "01", own_word);
+}
+
+/* 13, 14, 84 and 85 of one grant, then those of the next. Byte 0 is the kind, 15 and 216 are filler, 16 is p, 145 is
+ * in d. */
+static void cases_of_order_of_refusals(const struct engine *e)
+{
+    expect(e, "K2", with_two_damages(e, 0, 20230229, 0, 1, 0, 0x03) == refused(84));
+    expect(e, "K2", with_two_damages(e, 1, 20230229, 0, 0, 0, 0x03) == refused(13));
+    expect(e, "K2", with_two_damages(e, 0, 20240201, 20240131, 1, 0, 0x03) == refused(85));
+    expect(e, "K2", with_two_damages(e, 0, 20240201, 20240131, 1, 16, 0xFF) == refused(85));
+    expect(e, "K2", with_two_damages(e, 1, 20240201, 20240131, 0, 16, 0xFF) == refused(14));
+    expect(e, "K2", with_two_damages(e, 1, 20230229, 0, 0, 216, 0x01) == refused(13));
+    expect(e, "K2", with_two_damages(e, 0, 20230229, 0, 0, 15, 0x01) == refused(13));
+    expect(e, "K2", with_two_damages(e, 0, 20240201, 20240131, 0, 216, 0x01) == refused(13));
+    expect(e, "K2", with_two_damages(e, 0, 20230229, 0, 0, 16, 0xFF) == refused(14));
+    expect(e, "K2", with_two_damages(e, 0, 0, 20230229, 0, 145, 0xFF) == refused(14));
+    expect(e, "K2", with_two_damages(e, 0, 20240201, 20240131, 0, 145, 0xFF) == refused(14));
+    expect(e, "K2", with_two_damages(e, 0, 20240201, 20240131, 1, 212, 0xFF) == refused(85));
+    expect(e, "K2", with_two_damages(e, 1, 20240201, 20240131, 0, 208, 0xFF) == refused(84));
+}
+
+static void adds(const struct engine *e, uint32_t date, uint32_t count, uint32_t expected)
+{
+    expect(e, "K2", e->add_days(date, count) == expected);
+}
+
+static void cases_of_adding_days(const struct engine *e)
+{
+    adds(e, 20240131, 30, 20240301);
+    adds(e, 20991231, 366, 21010101);
+    adds(e, 21991231, 1, refused(86));
+    adds(e, 20230229, 0, refused(86));
+    adds(e, 0, 0, refused(86));
+    adds(e, 20240131, 0, 20240131);
+    adds(e, 19000228, 1, 19000301);
+    adds(e, 20000228, 1, 20000229);
+    adds(e, 20000228, 2, 20000301);
+    adds(e, 20230228, 1, 20230301);
+    adds(e, 20240228, 1, 20240229);
+    adds(e, 21000228, 1, 21000301);
+    adds(e, 20231231, 1, 20240101);
+    adds(e, 20231231, 366, 20241231);
+    adds(e, 20241231, 366, 20260101);
+    adds(e, 20240131, 366, 20250131);
+    adds(e, 20240131, 367, refused(86));
+    adds(e, 20240131, UINT32_MAX, refused(86));
+    adds(e, 21991231, 0, 21991231);
+    adds(e, 21981231, 365, 21991231);
+    adds(e, 21981231, 366, refused(86));
+    adds(e, 21991201, 30, 21991231);
+    adds(e, 21991201, 31, refused(86));
+}
+
+/* The extract call on a ledger and a buffer of these lengths gives this refusal and leaves the buffer as it was. */
+static bool extract_refuses(const struct engine *e, const struct ledger *ledger, size_t length, uint32_t day,
+                            size_t buffer_length, unsigned refusal)
+{
+    uint8_t buffer[EXTRACT_SIZE], before[EXTRACT_SIZE];
+    struct term label = codes(own_word);
+    memset(buffer, 0xAA, sizeof buffer);
+    memset(before, 0xAA, sizeof before);
+    return e->extract(ledger->bytes, length, label.codes, label.length, day, buffer, buffer_length) == refused(refusal)
+        && memcmp(buffer, before, sizeof buffer) == 0;
+}
+
+static void cases_of_dated_extract(const struct engine *e)
+{
+    struct ledger l = granted_for(20240101, 20240131), bad = granted_for(20240201, 20240131);
+    expect(e, "K2", extract_is(e, &l, 20231231, 0x0F));
+    expect(e, "K2", extract_is(e, &l, 20240101, 0x0D));
+    expect(e, "K2", extract_is(e, &l, 20240131, 0x0D));
+    expect(e, "K2", extract_is(e, &l, 20240201, 0x0F));
+    expect(e, "K2", extract_refuses(e, &l, 1, 0, 3, 86));
+    expect(e, "K2", extract_refuses(e, &l, 1, SOME_DAY, 3, 51));
+    expect(e, "K2", extract_refuses(e, &l, 1, SOME_DAY, EXTRACT_SIZE, 10));
+    expect(e, "K2", extract_refuses(e, &l, l.length, 0, EXTRACT_SIZE, 86));
+    expect(e, "K2", extract_refuses(e, &l, l.length, 20230229, EXTRACT_SIZE, 86));
+    expect(e, "K2", extract_refuses(e, &bad, bad.length, SOME_DAY, EXTRACT_SIZE, 85));
+}
+
+/* One step by rule 2: grant 0 as it stands. */
+static uint32_t derived_on(const struct engine *e, const struct ledger *ledger, size_t length, uint32_t day)
+{
+    struct derivation d = {0};
+    struct term p = codes("00"), q = codes("01"), label = codes(own_word);
+    add_step(&d, 2, 0, 0, 0, &p, &q);
+    return e->check_derivation(d.bytes, d.length, ledger->bytes, length, label.codes, label.length, day);
+}
+
+static void cases_of_dated_calls(const struct engine *e)
+{
+    struct ledger l = granted_for(20240101, 20240131);
+    expect(e, "K2", derived_on(e, &l, l.length, 20231231) == refused(66));
+    expect(e, "K2", derived_on(e, &l, l.length, 20240101) == yes());
+    expect(e, "K2", derived_on(e, &l, l.length, 20240131) == yes());
+    expect(e, "K2", derived_on(e, &l, l.length, 20240201) == refused(66));
+    expect(e, "K2", derived_on(e, &l, 1, 0) == refused(86));
+    expect(e, "K2", derived_on(e, &l, 1, SOME_DAY) == refused(10));
+    expect(e, "K2", ask_on(e->flows_to, &l, "41 00", "41 01", own_word, 20240131) == yes());
+    expect(e, "K2", ask_on(e->flows_to, &l, "41 00", "41 01", own_word, 20240201) == no_on_change_side(1));
+    l.length = 1;
+    expect(e, "K2", ask_on(e->flows_to, &l, "FF", "FF", "FF", 0) == refused(86));
+    expect(e, "K2", ask_on(e->acts_for, &l, "FF", "FF", "FF", 0) == refused(86));
+    expect(e, "K2", ask_on(e->acts_for, &l, "FF", "FF", "FF", SOME_DAY) == refused(10));
+}
+
 static void all_cases(const struct engine *e)
 {
     checks_of_the_ledgers(e);
@@ -367,6 +613,15 @@ static void all_cases(const struct engine *e)
     cases_of_lengths_read(e);
     case_of_brackets(e);
     cases_of_writing(e);
+    cases_of_edges(e);
+    case_of_block(e);
+    cases_of_months(e);
+    cases_of_dates(e);
+    cases_of_order_of_days(e);
+    cases_of_order_of_refusals(e);
+    cases_of_adding_days(e);
+    cases_of_dated_extract(e);
+    cases_of_dated_calls(e);
 }
 
 int main(void)
@@ -375,6 +630,6 @@ int main(void)
     all_cases(&library_engine);
     if (failures)
         return 1;
-    puts("worked cases A to L, K12 and K1: same, by the reference and by the library");
+    puts("worked cases A to L, K12, K1 and K2: same, by the reference and by the library");
     return 0;
 }

@@ -201,7 +201,7 @@ check-cases-data: build/make_cases
 	cmp build/cases-data $(CASES_DATA)
 
 reading-lines:
-	@for crate in model demands sperner; do \
+	@for crate in model demands algebra requests sperner; do \
 		echo "crates/$$crate/specs: $$(cat crates/$$crate/specs/*.antt | grep -cvE '^(use |pub mod |$$)')"; done
 
 # Blank lines are not counted, nor comments in code.

@@ -2,10 +2,17 @@
 use Prim.Native.Nat.{ℕ, _+_, _≤_}
 use native.Mathlib.Omega.{arith}
 use mathlib.Core.Path.{_≡_}
+use mathlib.Core.List.{List}
 use lib.ListN.{getD, List·getD-eq-default}
+use mir.Syntax.{w8}
+use mir.Val.{Fits}
 use borrow.Author.Needs.{needs}
 use Rattle.fields.proofs.four_bytes.Statement.{statement}
 use Rattle.fields.proofs.four_bytes.Tie as tie
+
+-- each of the four is a byte
+small : (l : List ℕ) (at : ℕ) → ((k : ℕ) → Fits w8 (getD l k 0)) → Fits w8 (getD l at 0) × Fits w8 (getD l (at + 1) 0) × Fits w8 (getD l (at + 2) 0) × Fits w8 (getD l (at + 3) 0)
+small l at bytes = (bytes at, bytes (at + 1), bytes (at + 2), bytes (at + 3))
 
 returns : tie.Need-returns
 returns c =
@@ -44,10 +51,10 @@ shared-slice-read-high : tie.Need-shared-slice-read-high
 shared-slice-read-high c = search needs
 
 cast-high : tie.Need-cast-high
-cast-high c = omega (arith, c .shared-slice-known2 .given (c .before .before .before .before .args .at))
+cast-high c = let a = c .before .before .before .before .args in omega (arith, small (a .bytes .now) (a .at) (c .shared-slice-known2 .given))
 
 mul-high : tie.Need-mul-high
-mul-high c = omega (arith, c .shared-slice-known2 .given (c .before .before .before .before .args .at))
+mul-high c = let a = c .before .before .before .before .args in omega (arith, small (a .bytes .now) (a .at) (c .shared-slice-known2 .given))
 
 add-high : tie.Need-add-high
 add-high c = search needs
@@ -56,12 +63,10 @@ shared-slice-read-high-2 : tie.Need-shared-slice-read-high-2
 shared-slice-read-high-2 c = search needs
 
 cast-high-2 : tie.Need-cast-high-2
-cast-high-2 c = omega (arith, c .shared-slice-known3 .given (c .before .before .before .before .before .args .at + 1))
+cast-high-2 c = let a = c .before .before .before .before .before .args in omega (arith, small (a .bytes .now) (a .at) (c .shared-slice-known3 .given))
 
 add-high-2 : tie.Need-add-high-2
-add-high-2 c =
-    let at = c .before .before .before .before .before .args .at in
-    omega (arith, c .shared-slice-known3 .given at, c .shared-slice-known3 .given (at + 1))
+add-high-2 c = let a = c .before .before .before .before .before .args in omega (arith, small (a .bytes .now) (a .at) (c .shared-slice-known3 .given))
 
 add-low : tie.Need-add-low
 add-low c = search needs
@@ -70,10 +75,10 @@ shared-slice-read-low : tie.Need-shared-slice-read-low
 shared-slice-read-low c = search needs
 
 cast-low : tie.Need-cast-low
-cast-low c = omega (arith, c .shared-slice-known4 .given (c .before .before .before .before .before .before .args .at + 2))
+cast-low c = let a = c .before .before .before .before .before .before .args in omega (arith, small (a .bytes .now) (a .at) (c .shared-slice-known4 .given))
 
 mul-low : tie.Need-mul-low
-mul-low c = omega (arith, c .shared-slice-known4 .given (c .before .before .before .before .before .before .args .at + 2))
+mul-low c = let a = c .before .before .before .before .before .before .args in omega (arith, small (a .bytes .now) (a .at) (c .shared-slice-known4 .given))
 
 add-low-2 : tie.Need-add-low-2
 add-low-2 c = search needs
@@ -82,22 +87,16 @@ shared-slice-read-low-2 : tie.Need-shared-slice-read-low-2
 shared-slice-read-low-2 c = search needs
 
 cast-low-2 : tie.Need-cast-low-2
-cast-low-2 c = omega (arith, c .shared-slice-known5 .given (c .before .before .before .before .before .before .before .args .at + 3))
+cast-low-2 c = let a = c .before .before .before .before .before .before .before .args in omega (arith, small (a .bytes .now) (a .at) (c .shared-slice-known5 .given))
 
 add-low-3 : tie.Need-add-low-3
-add-low-3 c =
-    let at = c .before .before .before .before .before .before .before .args .at in
-    omega (arith, c .shared-slice-known5 .given (at + 2), c .shared-slice-known5 .given (at + 3))
+add-low-3 c = let a = c .before .before .before .before .before .before .before .args in omega (arith, small (a .bytes .now) (a .at) (c .shared-slice-known5 .given))
 
 mul-result-2 : tie.Need-mul-result-2
-mul-result-2 c =
-    let at = c .before .before .before .before .before .before .before .args .at in
-    omega (arith, c .shared-slice-known5 .given at, c .shared-slice-known5 .given (at + 1))
+mul-result-2 c = let a = c .before .before .before .before .before .before .before .args in omega (arith, small (a .bytes .now) (a .at) (c .shared-slice-known5 .given))
 
 add-result-2 : tie.Need-add-result-2
-add-result-2 c =
-    let at = c .before .before .before .before .before .before .before .args .at in
-    omega (arith, c .shared-slice-known5 .given at, c .shared-slice-known5 .given (at + 1), c .shared-slice-known5 .given (at + 2), c .shared-slice-known5 .given (at + 3))
+add-result-2 c = let a = c .before .before .before .before .before .before .before .args in omega (arith, small (a .bytes .now) (a .at) (c .shared-slice-known5 .given))
 
 returns-3 : tie.Need-returns-3
 returns-3 c =

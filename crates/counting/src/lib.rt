@@ -128,8 +128,8 @@ fn on_day(ledger: &[u8], k: usize, day: u32) -> bool
 pub fn counts(ledger: &[u8], n: u64, k: usize, label: &[u8], day: u32) -> bool
     ensures { λ r. ⌜ r ≡ countsAt (now (ledger .entry)) n (now (label .entry)) day k ⌝ }
 {
-    let now = on_day(ledger, k, day);
-    if !now {
+    let current = on_day(ledger, k, day);
+    if !current {
         return false;
     }
     heard(ledger, n, k, label)

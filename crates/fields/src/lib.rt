@@ -30,15 +30,25 @@ pub fn two_bytes(bytes: &[u8], at: usize) -> u16
     high + bytes[at + 1] as u16
 }
 
-// A four-byte field likewise. Where it is whole, its bytes are read at one go.
-pub fn four_bytes(bytes: &[u8], at: usize) -> u32
+// A four-byte field likewise, wherever the bytes end.
+fn cut_field(bytes: &[u8], at: usize) -> u32
     ensures { λ r. ⌜ r ≡ fourBytes at (now (bytes .entry)) ⌝ }
 {
     if bytes.len() <= at {
         return 0;
     }
-    if bytes.len() - at < 4 {
-        return two_bytes(bytes, at) as u32 * 65536 + two_bytes(bytes, at + 2) as u32;
+    two_bytes(bytes, at) as u32 * 65536 + two_bytes(bytes, at + 2) as u32
+}
+
+// The same: where the field is whole its bytes are read at one go.
+pub fn four_bytes(bytes: &[u8], at: usize) -> u32
+    ensures { λ r. ⌜ r ≡ fourBytes at (now (bytes .entry)) ⌝ }
+{
+    if bytes.len() < 4 {
+        return cut_field(bytes, at);
+    }
+    if bytes.len() - 4 < at {
+        return cut_field(bytes, at);
     }
     let high = bytes[at] as u32 * 256 + bytes[at + 1] as u32;
     let low = bytes[at + 2] as u32 * 256 + bytes[at + 3] as u32;

@@ -1,9 +1,9 @@
--- `fields::four_bytes` meets its contract: past the end all bytes are 0, and a byte is below 256. Assumes nothing.
-use Prim.Native.Nat.{ℕ, _+_, _≤_}
+-- `fields::four_bytes` meets its contract: where the field is whole, by its four bytes. Assumes nothing.
+use Prim.Native.Nat.{ℕ, _+_}
 use native.Mathlib.Omega.{arith}
 use mathlib.Core.Path.{_≡_}
 use mathlib.Core.List.{List}
-use lib.ListN.{getD, List·getD-eq-default}
+use lib.ListN.{getD}
 use mir.Syntax.{w8}
 use mir.Val.{Fits}
 use borrow.Author.Needs.{needs}
@@ -14,38 +14,20 @@ use Rattle.fields.proofs.four_bytes.Tie as tie
 small : (l : List ℕ) (at : ℕ) → ((k : ℕ) → Fits w8 (getD l k 0)) → Fits w8 (getD l at 0) × Fits w8 (getD l (at + 1) 0) × Fits w8 (getD l (at + 2) 0) × Fits w8 (getD l (at + 3) 0)
 small l at bytes = (bytes at, bytes (at + 1), bytes (at + 2), bytes (at + 3))
 
+cut-field-requires : tie.Need-cut-field-requires
+cut-field-requires c κs = search needs
+
 returns : tie.Need-returns
-returns c =
-    let a = c .before .before .args in
-    let past : (k : ℕ) → a .at ≤ k → getD (a .bytes .now) k 0 ≡ 0 = λ k h. List·getD-eq-default (a .bytes .now) 0 {n = k} (omega arith) in
-    rw (past (a .at) (omega arith), past (a .at + 1) (omega arith), past (a .at + 2) (omega arith), past (a .at + 2 + 1) (omega arith))
+returns c = c .cut-field .ensures
 
 sub-if2 : tie.Need-sub-if2
 sub-if2 c = search needs
 
-two-bytes-requires : tie.Need-two-bytes-requires
-two-bytes-requires c κs = search needs
-
-cast-result : tie.Need-cast-result
-cast-result c = search needs
-
-mul-result : tie.Need-mul-result
-mul-result c = search needs
-
-add-two-bytes : tie.Need-add-two-bytes
-add-two-bytes c = search needs
-
-two-bytes-requires-2 : tie.Need-two-bytes-requires-2
-two-bytes-requires-2 c κs = search needs
-
-cast-result-2 : tie.Need-cast-result-2
-cast-result-2 c = search needs
-
-add-result : tie.Need-add-result
-add-result c = search needs
+cut-field-requires-2 : tie.Need-cut-field-requires-2
+cut-field-requires-2 c κs = search needs
 
 returns-2 : tie.Need-returns-2
-returns-2 c = search needs
+returns-2 c = c .cut-field2 .ensures
 
 shared-slice-read-high : tie.Need-shared-slice-read-high
 shared-slice-read-high c = search needs
@@ -92,11 +74,11 @@ cast-low-2 c = let a = c .before .before .before .before .before .before .before
 add-low-3 : tie.Need-add-low-3
 add-low-3 c = let a = c .before .before .before .before .before .before .before .args in omega (arith, small (a .bytes .now) (a .at) (c .shared-slice-known5 .given))
 
-mul-result-2 : tie.Need-mul-result-2
-mul-result-2 c = let a = c .before .before .before .before .before .before .before .args in omega (arith, small (a .bytes .now) (a .at) (c .shared-slice-known5 .given))
+mul-result : tie.Need-mul-result
+mul-result c = let a = c .before .before .before .before .before .before .before .args in omega (arith, small (a .bytes .now) (a .at) (c .shared-slice-known5 .given))
 
-add-result-2 : tie.Need-add-result-2
-add-result-2 c = let a = c .before .before .before .before .before .before .before .args in omega (arith, small (a .bytes .now) (a .at) (c .shared-slice-known5 .given))
+add-result : tie.Need-add-result
+add-result c = let a = c .before .before .before .before .before .before .before .args in omega (arith, small (a .bytes .now) (a .at) (c .shared-slice-known5 .given))
 
 returns-3 : tie.Need-returns-3
 returns-3 c =
@@ -108,15 +90,10 @@ pub four-bytes-spec : {M : Type 1} → statement M
 four-bytes-spec =
     tie.close
     (tie.spec
+    cut-field-requires
     returns
     sub-if2
-    two-bytes-requires
-    cast-result
-    mul-result
-    add-two-bytes
-    two-bytes-requires-2
-    cast-result-2
-    add-result
+    cut-field-requires-2
     returns-2
     shared-slice-read-high
     cast-high
@@ -133,6 +110,6 @@ four-bytes-spec =
     shared-slice-read-low-2
     cast-low-2
     add-low-3
-    mul-result-2
-    add-result-2
+    mul-result
+    add-result
     returns-3)

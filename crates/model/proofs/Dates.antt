@@ -34,21 +34,14 @@ days-say first last day = (there, back)
 -- ---- real dates
 
 -- a month has 28 to 31 days
-pub days-least : (year month : ℕ) → 28 ≤ daysIn year month
+days-range : (year month : ℕ) → (28 ≤ daysIn year month) × (daysIn year month ≤ 31)
 unfolding daysIn
-days-least year month =
-    cond-case (λ d. 28 ≤ d) (eqb month 2) _ _
-    (λ _. cond-case (λ d. 28 ≤ d) (leap year) 29 28 (λ _. omega arith) (λ _. omega arith))
-    (λ _. cond-case (λ d. 28 ≤ d) (eqb month 4 || (eqb month 6 || (eqb month 9 || eqb month 11))) 30 31 (λ _. omega arith) (λ _. omega arith))
+days-range year month =
+    cond-case (λ d. (28 ≤ d) × (d ≤ 31)) (eqb month 2) _ _
+    (λ _. cond-case (λ d. (28 ≤ d) × (d ≤ 31)) (leap year) 29 28 (λ _. (omega arith, omega arith)) (λ _. (omega arith, omega arith)))
+    (λ _. cond-case (λ d. (28 ≤ d) × (d ≤ 31)) (eqb month 4 || (eqb month 6 || (eqb month 9 || eqb month 11))) 30 31 (λ _. (omega arith, omega arith)) (λ _. (omega arith, omega arith)))
 
-pub days-most : (year month : ℕ) → daysIn year month ≤ 31
-unfolding daysIn
-days-most year month =
-    cond-case (λ d. d ≤ 31) (eqb month 2) _ _
-    (λ _. cond-case (λ d. d ≤ 31) (leap year) 29 28 (λ _. omega arith) (λ _. omega arith))
-    (λ _. cond-case (λ d. d ≤ 31) (eqb month 4 || (eqb month 6 || (eqb month 9 || eqb month 11))) 30 31 (λ _. omega arith) (λ _. omega arith))
-
-pub december : (year : ℕ) → daysIn year 12 ≡ 31
+december : (year : ℕ) → daysIn year 12 ≡ 31
 unfolding daysIn
 december year = refl
 
@@ -100,7 +93,7 @@ real-says date = (there, back)
 
     back : RealDate date → realDate date ≡ true
     back r =
-        let few = days-most (r .year) (r .month) in
+        let few = days-range (r .year) (r .month) in
         let y : yearOf date ≡ r .year = omega (arith, r .written, r .month-most, r .day-most) in
         let m : monthOf date ≡ r .month = omega (arith, r .written, r .month-most, r .day-most) in
         let d : dayOf date ≡ r .day = omega (arith, r .written, r .month-most, r .day-most) in
@@ -116,7 +109,7 @@ real-says date = (there, back)
 pub real-most : (date : ℕ) → realDate date ≡ true → date ≤ 21991231
 real-most date e =
     let r = parts date e in
-    omega (arith, r .year-most, r .month-most, r .day-most, days-most (yearOf date) (monthOf date))
+    omega (arith, r .year-most, r .month-most, r .day-most, days-range (yearOf date) (monthOf date))
 
 -- ---- the next day
 
@@ -125,7 +118,7 @@ module _ (date : ℕ) (e : realDate date ≡ true) where
   next-in-month : dayOf date < daysIn (yearOf date) (monthOf date) → NextDate date (date + 1)
   next-in-month h =
       let r = parts date e in
-      let few = days-most (yearOf date) (monthOf date) in
+      let few = days-range (yearOf date) (monthOf date) in
       record {
         real = real-says (date + 1) .1 (record {
           year = yearOf date;
@@ -158,9 +151,9 @@ module _ (date : ℕ) (e : realDate date ≡ true) where
           month-least = omega arith;
           month-most = omega arith;
           day-least = omega arith;
-          day-most = omega (arith, days-least (yearOf date) (monthOf date + 1));
+          day-most = omega (arith, days-range (yearOf date) (monthOf date + 1));
         });
-        after = omega (arith, r .day-most, days-most (yearOf date) (monthOf date));
+        after = omega (arith, r .day-most, days-range (yearOf date) (monthOf date));
         least = least;
       }
     where
@@ -195,12 +188,12 @@ module _ (date : ℕ) (e : realDate date ≡ true) where
           month-least = omega arith;
           month-most = omega arith;
           day-least = omega arith;
-          day-most = omega (arith, days-least (yearOf date + 1) 1);
+          day-most = omega (arith, days-range (yearOf date + 1) 1);
         });
         after = omega (arith, r .day-most, last);
         least = λ x t l.
             let s = parts x t in
-            omega (arith, last, s .month-least, s .month-most, s .day-least, s .day-most, days-most (yearOf x) (monthOf x));
+            omega (arith, last, s .month-least, s .month-most, s .day-least, s .day-most, days-range (yearOf x) (monthOf x));
       }
 
   -- but for the last, the next day of a real date is the least real date after it

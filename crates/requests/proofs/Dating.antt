@@ -1,7 +1,7 @@
 -- The days of a grant and the day of a call. Assumes nothing.
 use mathlib.Core.Path.{_≡_, refl, sym, ap}
 use mathlib.Core.Logic.{inl, inr, _⊎_}
-use Prim.Native.Nat.{ℕ, zero, suc}
+use Prim.Native.Nat.{ℕ, zero, suc, _<_}
 use mathlib.Core.Bool.{Bool, true, false, _&&_, _||_, and-false, true≢false}
 use mathlib.Core.List.{List, [], _∷_}
 use native.Mathlib.Omega.{arith}
@@ -54,7 +54,7 @@ unfolding dateOrNone
 edge-real edge q e = rw q at e
 
 -- a block that is refused by a number past 14 has its form, and its terms are read
-module _ (n : ℕ) (block : List ℕ) (r : ℕ) (past : (r ≡ 84) ⊎ (r ≡ 85)) where
+module _ (n : ℕ) (block : List ℕ) (r : ℕ) (past : 14 < r) where
   record Late : Type 0 where
     grant : Grant
     form : grantForm block ≡ true
@@ -65,29 +65,15 @@ module _ (n : ℕ) (block : List ℕ) (r : ℕ) (past : (r ≡ 84) ⊎ (r ≡ 85
   unfolding readGrant
   late = on (grantForm block) refl (readTerms n block) refl
     where
-      not-13 : 13 ≡ r → ⊥
-      not-13 e = go past
-        where
-          go : (r ≡ 84) ⊎ (r ≡ 85) → ⊥
-          go (inl h) = omega arith
-          go (inr h) = omega arith
-
-      not-14 : 14 ≡ r → ⊥
-      not-14 e = go past
-        where
-          go : (r ≡ 84) ⊎ (r ≡ 85) → ⊥
-          go (inl h) = omega arith
-          go (inr h) = omega arith
-
       on : (b : Bool) → grantForm block ≡ b → (t : Reading Grant) → readTerms n block ≡ t → require b 13 (andThen (refusedAs 14 t) readDays) ≡ refused r → Late
-      on false f t q e = absurd (not-13 cc)
-      on true f (refused k) q e = absurd (not-14 cc)
+      on false f t q e = absurd (let z : 13 ≡ r = cc in omega arith)
+      on true f (refused k) q e = absurd (let z : 14 ≡ r = cc in omega arith)
       on true f (accepted g) q e = record { grant = g; form = f; terms = q; days = e }
 
 date-refused : (n : ℕ) (block : List ℕ) → readGrant n block ≡ refused 84 → DateRefused n block
 unfolding readDays
 date-refused n block e =
-    let l = late n block 84 (inl refl) e in
+    let l = late n block 84 (omega arith) e in
     record {
       grant = l .grant;
       read = record { form = l .form; terms = l .terms };
@@ -113,7 +99,7 @@ refused-date n block d = rw (d .read .form, d .read .terms) (by (d .bad))
 order-refused : (n : ℕ) (block : List ℕ) → readGrant n block ≡ refused 85 → OrderRefused n block
 unfolding readDays inOrder
 order-refused n block e =
-    let l = late n block 85 (inr refl) e in
+    let l = late n block 85 (omega arith) e in
     by (l .grant) (l .form) (l .terms) (dateOrNone (l .grant .first)) refl (dateOrNone (l .grant .last)) refl (eqb (l .grant .first) 0) refl (eqb (l .grant .last) 0) refl (leb (l .grant .first) (l .grant .last)) refl (l .days)
   where
     by : (g : Grant) → grantForm block ≡ true → readTerms n block ≡ accepted g → (a : Bool) → dateOrNone (g .first) ≡ a → (b : Bool) → dateOrNone (g .last) ≡ b

@@ -50,7 +50,7 @@ comes-back (Refused r) h = (omega arith, omega arith, omega arith)
 comes-back (RefusedAt k r) h = (omega arith, omega arith, omega arith)
 
 -- refusals of ranges that end below a number are below it
-abbrev EndBelow : ℕ → List Range → Type 0
+abbrev pub EndBelow : ℕ → List Range → Type 0
 EndBelow most [] = Unit {0}
 EndBelow most (a to b ∷ l) = (b < most) × EndBelow most l
 
@@ -227,12 +227,6 @@ answers-come-back = record {
   derivations = λ d ledger label day. let a = checkDerivation d ledger label day in comes-back a (derivation-small d day a (derivations-answered d ledger label day));
 }
 
--- 86 is given exactly on a day that is not real
-pub question-86 : (ledger : List ℕ) (day : ℕ) (answer : Answer) → AnswersQuestion ledger day answer → answer ≡ Refused 86 → realDate day ≡ false
-question-86 ledger day answer h e = day-86 questionRefusals day (omega arith) (rw e at h)
-
-pub extract-86 : (day : ℕ) (answer : Answer) → AnswersExtract day answer → answer ≡ Refused 86 → realDate day ≡ false
-extract-86 day answer h e = day-86 extractRefusals day (omega arith) (rw e at h)
-
-pub derivation-86 : (d : List ℕ) (day : ℕ) (answer : Answer) → AnswersDerivation d day answer → answer ≡ Refused 86 → realDate day ≡ false
-derivation-86 d day answer h e = day-86 derivationRefusals day (omega arith) (rw e at h)
+-- a call whose refusals on a real day are these gives 86 only on one that is not real
+pub given-86 : (l : List Range) (day : ℕ) (P : Answer → Type 0) (answer : Answer) → EndBelow 86 l → (P (Refused 86) → OnDay l day 86) → P answer → answer ≡ Refused 86 → realDate day ≡ false
+given-86 l day P answer below on h e = day-86 l day below (on (rw e at h))

@@ -19,7 +19,8 @@ use Rattle.model.proofs.Truth.{clash, or-right}
 use Rattle.model.proofs.Accepted.{accepted-same, then-accepted}
 use Rattle.model.proofs.Dates.{real-says, real-most, next-least, add-exactly, add-refused}
 use Rattle.requests.specs.Days.{NextDayIsLeast, AddsDays, BadDate, DateRefused, OrderRefused, DaysRefused, BadDayRefused, OutsideDaysChangeNothing}
-use Rattle.demands.proofs.Figures.{questions-answered, extracts-answered, derivations-answered, question-86, extract-86, derivation-86}
+use Rattle.demands.specs.Numbers.{questionRefusals, extractRefusals, derivationRefusals, AnswersQuestion, AnswersExtract, AnswersDerivation}
+use Rattle.demands.proofs.Figures.{questions-answered, extracts-answered, derivations-answered, given-86}
 use Rattle.demands.proofs.Comparing.{uncounted-change-nothing}
 
 pub next-day-is-least : NextDayIsLeast
@@ -142,10 +143,10 @@ days-refused = record {
 pub bad-day-refused : BadDayRefused
 unfolding ask actsFor flowsTo extractOf extract checkDerivation quote
 bad-day-refused = record {
-  acts-for = λ ledger p q label day. (question-86 ledger day _ (questions-answered .acts-for ledger p q label day), λ f. rw f);
-  flows-to = λ ledger p q label day. (question-86 ledger day _ (questions-answered .flows-to ledger p q label day), λ f. rw f);
-  extracts = λ ledger label day buffer. (extract-86 day _ (extracts-answered ledger label day buffer), λ f. rw f);
-  derivations = λ d ledger label day. (derivation-86 d day _ (derivations-answered d ledger label day), λ f. rw f);
+  acts-for = λ ledger p q label day. (given-86 questionRefusals day (AnswersQuestion ledger day) _ (omega arith) (λ h. h) (questions-answered .acts-for ledger p q label day), λ f. rw f);
+  flows-to = λ ledger p q label day. (given-86 questionRefusals day (AnswersQuestion ledger day) _ (omega arith) (λ h. h) (questions-answered .flows-to ledger p q label day), λ f. rw f);
+  extracts = λ ledger label day buffer. (given-86 extractRefusals day (AnswersExtract day) _ (omega arith) (λ h. h) (extracts-answered ledger label day buffer), λ f. rw f);
+  derivations = λ d ledger label day. (given-86 derivationRefusals day (AnswersDerivation d day) _ (omega arith) (λ h. h) (derivations-answered d ledger label day), λ f. rw f);
   quotes = λ d ledger label day step f. rw f;
 }
 

@@ -11,7 +11,7 @@ use Rattle.model.specs.Extracts.{extractOf, extract}
 use Rattle.model.specs.Derivations.{ruleOf, stepForm, readLeft, readRight, meets, checkStep, checkSteps, checkDerivation}
 use Rattle.model.specs.Texts.{flat, term, rank, fewest}
 use Rattle.model.specs.Notation.{lastOf, readDeep, textCodes, termText}
-use Rattle.requests.specs.Cases.{NotationCases, datedBlock, dated, DayCases}
+use Rattle.requests.specs.Cases.{NotationCases, blockOf, dated, DayCases}
 
 pub notation-cases : NotationCases
 unfolding codes codeOf readWithin readTerm flat term rank fewest lastOf readDeep textCodes termText
@@ -45,7 +45,7 @@ notation-cases = record {
 }
 
 pub day-cases : DayCases
-unfolding dated datedBlock zeros same pieces joined codes codeOf readWithin readTerm member held every within visible voice spoken heard inDays countsUnder ofGrant chosen sound weighted checkOf checked grantBlocks allChecked headerForm grantForm readTerms leap daysIn realDate nextDay daysLater addDays dateOrNone inOrder readDays readGrant readGrants readLedger readBook lowest refutes judge soundUnder actsForUnder ask actsFor extractOf extract withCheck ledgerOf ruleOf stepForm readLeft readRight meets checkStep checkSteps checkDerivation
+unfolding dated blockOf zeros same pieces joined codes codeOf readWithin readTerm member held every within visible voice spoken heard inDays countsUnder ofGrant chosen sound weighted checkOf checked grantBlocks allChecked headerForm grantForm readTerms leap daysIn realDate nextDay daysLater addDays dateOrNone inOrder readDays readGrant readGrants readLedger readBook lowest refutes judge soundUnder actsForUnder ask actsFor extractOf extract withCheck ledgerOf ruleOf stepForm readLeft readRight meets checkStep checkSteps checkDerivation
 day-cases = record {
   last-day = refl;
   after-last = refl;
@@ -56,6 +56,7 @@ day-cases = record {
   check = refl;
   date-first = refl;
   kind-first = refl;
+  term-before-date = refl;
   reversed = refl;
   date-before-order = refl;
   granting-on-last = refl;

@@ -72,17 +72,17 @@ pub record NotationCases : Type 0 where
 
 -- ---- K2: grants with a first and last day
 
--- the body of Granted's grant block with a kind, a first and a last day
-abbrev pub datedBody : ℕ → ℕ → ℕ → List ℕ
-datedBody kind first last = kind ∷ 0x01 ∷ 0x01 ∷ 0x02 ∷ replicate 12 0 ++ code1 0x00 ++ code1 0x01 ++ code2 0x41 0x01
-    ++ bigEndian (first / 65536) ++ bigEndian (first % 65536) ++ bigEndian (last / 65536) ++ bigEndian (last % 65536) ++ replicate 294 0
+-- Granted's grant block with a kind, a p of one code, a first and a last day
+unfoldable pub blockOf : ℕ → ℕ → ℕ → ℕ → List ℕ
+blockOf kind p first last = withCheck (kind ∷ 0x01 ∷ 0x01 ∷ 0x02 ∷ replicate 12 0 ++ code1 p ++ code1 0x01 ++ code2 0x41 0x01
+    ++ bigEndian (first / 65536) ++ bigEndian (first % 65536) ++ bigEndian (last / 65536) ++ bigEndian (last % 65536) ++ replicate 294 0)
 
-unfoldable pub datedBlock : ℕ → ℕ → ℕ → List ℕ
-datedBlock kind first last = withCheck (datedBody kind first last)
+abbrev pub datedBlock : ℕ → ℕ → List ℕ
+datedBlock first last = blockOf 0x02 0x00 first last
 
 -- Granted with these days
 unfoldable pub dated : ℕ → ℕ → List ℕ
-dated first last = ledgerOf 2 (datedBlock 0x02 first last ∷ [])
+dated first last = ledgerOf 2 (datedBlock first last ∷ [])
 
 -- does 00 act for 01 under 41 01, Granted's grant having these days, on the day
 abbrev pub askedOn : ℕ → ℕ → ℕ → Answer
@@ -100,11 +100,13 @@ pub record DayCases : Type 0 where
   pub before-first : askedOn 20240131 0 20240130 ≡ No confidentiality 1
   pub one-day : askedOn 20240131 20240131 20240131 ≡ Yes
   -- the bytes of the days 20240101 to 20240131, and the check of Granted's grant block with them
-  pub dates : field 208 8 (datedBlock 0x02 20240101 20240131) ≡ (0x01 ∷ 0x34 ∷ 0xD6 ∷ 0xE5 ∷ 0x01 ∷ 0x34 ∷ 0xD7 ∷ 0x03 ∷ [])
-  pub check : field 510 2 (datedBlock 0x02 20240101 20240131) ≡ (0xA2 ∷ 0xC6 ∷ [])
+  pub dates : field 208 8 (datedBlock 20240101 20240131) ≡ (0x01 ∷ 0x34 ∷ 0xD6 ∷ 0xE5 ∷ 0x01 ∷ 0x34 ∷ 0xD7 ∷ 0x03 ∷ [])
+  pub check : field 510 2 (datedBlock 20240101 20240131) ≡ (0xA2 ∷ 0xC6 ∷ [])
   -- grant by grant: a bad date of the first is refused before the kind of the second, and the other way round
-  pub date-first : readLedger (ledgerOf 2 (datedBlock 0x02 0 20240230 ∷ datedBlock 0x03 0 0 ∷ [])) ≡ refused 84
-  pub kind-first : readLedger (ledgerOf 2 (datedBlock 0x03 0 0 ∷ datedBlock 0x02 0 20240230 ∷ [])) ≡ refused 13
+  pub date-first : readLedger (ledgerOf 2 (datedBlock 0 20240230 ∷ blockOf 0x03 0x00 0 0 ∷ [])) ≡ refused 84
+  pub kind-first : readLedger (ledgerOf 2 (blockOf 0x03 0x00 0 0 ∷ datedBlock 0 20240230 ∷ [])) ≡ refused 13
+  -- of one grant: an unknown name before a bad date
+  pub term-before-date : readLedger (ledgerOf 2 (blockOf 0x02 0x02 0 20240230 ∷ [])) ≡ refused 14
   -- days in the wrong order, and a date that is not real before that
   pub reversed : readLedger (dated 20240131 20240130) ≡ refused 85
   pub date-before-order : readLedger (dated 20240132 20240130) ≡ refused 84

@@ -4,8 +4,7 @@ use mathlib.Core.Bool.{Bool, true, false, cond}
 use Prim.Native.Nat.{ℕ, _-_, _*_, _/_, _%_, _^_, _≤_, _<_}
 use native.Mathlib.Decide.{ℕ-discrete, decLt}
 use native.Mathlib.Omega.{arith}
-use native.Mathlib.Nat.{one-mul, mod-eq-of-lt}
-use lib.Pow.{pow-mono, pow-lt}
+use lib.Pow.{pow-mono}
 use borrow.Author.Tests.{eq-eqb}
 use Rattle.model.specs.Coalitions.{member}
 use Rattle.model.proofs.Truth.{clash}
@@ -15,10 +14,7 @@ use Rattle.words.proofs.Packing.{packed-all}
 use Rattle.counting.specs.declared.Known.{Known}
 use Rattle.counting.specs.Counted.{nothingKnown, KnownOf, judgedAt}
 
--- the code's bit k, and its test of a bit
-pub one-bit : (k : ℕ) → k < 64 → 1 * 2 ^ k % 2 ^ 64 ≡ 2 ^ k
-one-bit k h = ap (λ (x : ℕ). x % 2 ^ 64) (one-mul (2 ^ k)) ∙ mod-eq-of-lt (pow-lt h)
-
+-- the code's test of a bit
 pub bit-on : (k x : ℕ) → (x / 2 ^ k % 2 ≡ 0 → ⊥) → member k x ≡ true
 unfolding member
 bit-on k x e = eq-eqb (x / 2 ^ k % 2) 1 (omega arith)

@@ -4,9 +4,11 @@ pub mod Held
 pub mod Reading
 pub mod Refusals
 pub mod Search
+pub mod Largest
 pub mod Judge
 pub mod Dates
 pub mod Sound
+pub mod Testing
 pub mod Packed
 pub mod Table
 pub mod Extracted

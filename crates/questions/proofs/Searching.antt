@@ -14,7 +14,7 @@ use Rattle.model.proofs.Search.{lowest-nowhere, lowest-at, lowest-cong}
 use Rattle.model.proofs.Packed.{own-bits, member-packed}
 use Rattle.words.specs.declared.Row.{Row}
 use Rattle.words.specs.declared.Rows.{Rows}
-use Rattle.words.specs.FourWords.{wordIn, RowAt, RowsAt, sameRow, emptyRow}
+use Rattle.words.specs.FourWords.{wordIn, sideOf, RowAt, RowsAt, sameRow, emptyRow}
 use Rattle.words.specs.Evaluation.{jobOf, rowCount, LowestMark, LowestBit}
 use Rattle.words.proofs.Names.{rows-few-of}
 use Rattle.words.proofs.Packing.{packed-zero}
@@ -23,7 +23,6 @@ use Rattle.words.proofs.Searches.{lowest-kept, lowest-past, lowest-found, lowes
 use Rattle.questions.specs.declared.Relation.{Relation}
 use Rattle.questions.specs.declared.Verdict.{Verdict}
 use Rattle.questions.specs.declared.Verdict.the-variants.{Holds, Refuted}
-use Rattle.questions.specs.Answers.{sideOf}
 use Rattle.questions.specs.Searching.{verdictOf, fromOf, toOf, judgeOf, opposedOf, refutersOf, lowestBit, firstOf, raised, lowestIn, placed, seeOnly, stillOf, stillRows, laterOf, furtherOf, foundTo, Deciding}
 use Rattle.questions.proofs.Refuting.{refuters-are}
 

@@ -1,22 +1,15 @@
 -- What each case of a question and of an answer stands for in document 01, "Acts-for question" and "Flows-to question".
 -- Assumes nothing: these are definitions.
-use Rattle.model.specs.Sides.{Side as ModelSide, confidentiality, integrity}
 use Rattle.model.specs.Terms.{Term}
 use Rattle.model.specs.Grants.{Under}
 use Rattle.model.specs.Ledgers.{Ledger}
 use Rattle.model.specs.Questions.{actsForUnder, flowsToUnder}
 use Rattle.model.specs.Answers as model
-use Rattle.questions.specs.declared.Side.{Side}
-use Rattle.questions.specs.declared.Side.the-variants.{See, Change}
+use Rattle.words.specs.FourWords.{sideOf}
 use Rattle.questions.specs.declared.Answer.{Answer}
 use Rattle.questions.specs.declared.Answer.the-variants.{Yes, No, Refused}
 use Rattle.questions.specs.declared.Relation.{Relation}
 use Rattle.questions.specs.declared.Relation.the-variants.{ActsFor, FlowsTo}
-
--- the see side is confidentiality, the change side integrity
-abbrev pub sideOf : Side → ModelSide
-sideOf See = confidentiality
-sideOf Change = integrity
 
 -- yes; no, with the side and the coalition that refutes; or the refusal's number
 abbrev pub answerOf : Answer → model.Answer

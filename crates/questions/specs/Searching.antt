@@ -11,7 +11,7 @@ use Rattle.model.specs.Terms.{Term, held}
 use Rattle.model.specs.Questions.{refutes, ground, judge, across}
 use Rattle.words.specs.declared.Row.{Row}
 use Rattle.words.specs.declared.Rows.{Rows}
-use Rattle.words.specs.FourWords.{RowsAt, sameRow}
+use Rattle.words.specs.FourWords.{sideOf, RowsAt, sameRow}
 use Rattle.words.specs.Evaluation.{jobOf}
 use Rattle.counting.specs.Counted.{KnownOf}
 use Rattle.questions.specs.declared.Answer.{Answer}
@@ -21,7 +21,6 @@ use Rattle.questions.specs.declared.Relation.the-variants.{ActsFor, Flow
 use Rattle.questions.specs.declared.Sifted.{Sifted}
 use Rattle.questions.specs.declared.Verdict.{Verdict}
 use Rattle.questions.specs.declared.Verdict.the-variants.{Holds, Refuted}
-use Rattle.questions.specs.Answers.{sideOf}
 
 -- what each case of a verdict stands for
 abbrev pub verdictOf : Verdict → model.Verdict

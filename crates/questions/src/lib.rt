@@ -4,6 +4,7 @@ use ledgers::LedgerReading;
 use terms::TermReading;
 use words::Row;
 use words::Rows;
+use words::Side;
 ghost use mathlib.Core.Path.{_≡_};
 ghost use mathlib.Core.Bool.{false, _&&_};
 ghost use Prim.Native.Nat.{_≤_, _<_};
@@ -17,11 +18,6 @@ ghost use Rattle.counting.specs.Counted.{grantIn, countsAt, countedIn};
 ghost use Rattle.soundness.specs.Keeping.{soundIn};
 ghost use Rattle.questions.specs.Answers.{answerOf, relationOf};
 ghost use Rattle.questions.specs.Searching.{opposedOf, judgeOf, verdictOf, verdictAnswer, lowestIn, placed, stillRows, furtherOf, SiftedTo};
-
-pub enum Side {
-    See,
-    Change,
-}
 
 // What a search for a refuter gives.
 pub enum Verdict {

@@ -2,4 +2,5 @@
 pub mod Fewest
 pub mod Language
 pub mod Dating
+pub mod Stopping
 pub mod Tried

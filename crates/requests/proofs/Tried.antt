@@ -1,5 +1,6 @@
 -- The cases of the requests, by evaluation of the definitions. Assumes nothing.
 use mathlib.Core.Path.{refl}
+use Rattle.model.specs.Sides.{confidentiality, integrity}
 use Rattle.model.specs.Bytes.{zeros, same, pieces, joined}
 use Rattle.model.specs.Coalitions.{member, every, within, lowest}
 use Rattle.model.specs.Terms.{codes, codeOf, readWithin, readTerm, held}
@@ -7,11 +8,12 @@ use Rattle.model.specs.Dates.{leap, daysIn, realDate, nextDay, daysLater, addDa
 use Rattle.model.specs.Grants.{countsUnder, visible, voice, spoken, heard, ofGrant, chosen, sound}
 use Rattle.model.specs.Ledgers.{readBook, weighted, checkOf, checked, grantBlocks, allChecked, headerForm, grantForm, readTerms, readDays, readGrant, readGrants, readLedger, withCheck, ledgerOf}
 use Rattle.model.specs.Questions.{refutes, judge, soundUnder, actsForUnder, ask, actsFor}
+use Rattle.model.specs.Testing.{test, testUnder}
 use Rattle.model.specs.Extracts.{extractOf, extract}
 use Rattle.model.specs.Derivations.{ruleOf, stepForm, readLeft, readRight, meets, checkStep, checkSteps, checkDerivation}
 use Rattle.model.specs.Texts.{flat, term, rank, fewest}
 use Rattle.model.specs.Notation.{lastOf, readDeep, textCodes, termText}
-use Rattle.requests.specs.Cases.{NotationCases, blockOf, dated, DayCases}
+use Rattle.requests.specs.Cases.{NotationCases, blockOf, dated, DayCases, grantBlockOf, fourGrants, twoGrants, TestCases}
 
 pub notation-cases : NotationCases
 unfolding codes codeOf readWithin readTerm flat term rank fewest lastOf readDeep textCodes termText
@@ -73,4 +75,22 @@ day-cases = record {
   past-2199 = refl;
   no-such-date = refl;
   added-367 = refl;
+}
+
+pub test-cases : TestCases
+unfolding fourGrants twoGrants grantBlockOf zeros pieces joined codeOf readWithin readTerm member held every within visible voice spoken heard inDays countsUnder chosen weighted checkOf checked grantBlocks allChecked headerForm grantForm readTerms dateOrNone inOrder readDays readGrant readGrants readLedger readBook withCheck ledgerOf test testUnder
+test-cases = record {
+  four-0 = elim [ confidentiality ↦ refl | integrity ↦ refl ];
+  four-1 = elim [ confidentiality ↦ refl | integrity ↦ refl ];
+  four-2 = elim [ confidentiality ↦ refl | integrity ↦ refl ];
+  four-3 = elim [ confidentiality ↦ refl | integrity ↦ refl ];
+  no-grants = elim [ confidentiality ↦ refl | integrity ↦ refl ];
+  see-0 = refl;
+  see-1 = refl;
+  see-0-kept = refl;
+  see-1-kept = refl;
+  change-0 = refl;
+  change-1 = refl;
+  change-2 = refl;
+  change-3 = refl;
 }

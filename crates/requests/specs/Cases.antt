@@ -1,20 +1,22 @@
 -- Document 02: the cases of the requests, on their own bytes, characters and numbers. Assumes nothing: these are the statements.
 use mathlib.Core.Path.{_≡_}
-use Prim.Native.Nat.{ℕ, _/_, _%_}
+use Prim.Native.Nat.{ℕ, _-_, _/_, _%_}
 use mathlib.Core.Bool.{true, false}
 use mathlib.Core.List.{List, [], _∷_, _++_}
-use lib.ListN.{replicate}
-use Rattle.model.specs.Sides.{confidentiality}
-use Rattle.model.specs.Readings.{accepted, refused}
+use lib.ListN.{length, replicate}
+use Rattle.model.specs.Sides.{Side, confidentiality, integrity}
+use Rattle.model.specs.Readings.{Reading, accepted, refused, andThen}
 use Rattle.model.specs.Bytes.{field, bigEndian}
 use Rattle.model.specs.Dates.{realDate, addDays}
-use Rattle.model.specs.Ledgers.{readLedger, withCheck, ledgerOf}
+use Rattle.model.specs.Ledgers.{readLedger, readBook, withCheck, ledgerOf}
 use Rattle.model.specs.Answers.{Answer, Yes, No, Refused, RefusedAt}
 use Rattle.model.specs.Questions.{actsFor}
+use Rattle.model.specs.Testing.{Tested, testUnder}
 use Rattle.model.specs.Extracts.{extract}
 use Rattle.model.specs.Derivations.{checkDerivation}
 use Rattle.model.specs.Notation.{textCodes, termText}
 use Rattle.demands.specs.Cases.{code1, code2}
+use Rattle.requests.specs.Testing.{broken, sound}
 
 -- K1: a written notation
 pub record NotationCases : Type 0 where
@@ -128,3 +130,44 @@ pub record DayCases : Type 0 where
   pub past-2199 : addDays 21991231 1 ≡ refused 86
   pub no-such-date : addDays 20230229 0 ≡ refused 86
   pub added-367 : addDays 20240131 367 ≡ refused 86
+
+-- ---- K3: stop at the broken grant
+
+abbrev pub fieldOf : List ℕ → List ℕ
+fieldOf codes = codes ++ replicate (64 - length codes) 0
+
+-- a grant's block: p, q and the label, without days
+unfoldable pub grantBlockOf : List ℕ → List ℕ → List ℕ → List ℕ
+grantBlockOf p q label = withCheck (0x02 ∷ length p ∷ length q ∷ length label ∷ replicate 12 0 ++ fieldOf p ++ fieldOf q ++ fieldOf label ++ replicate 302 0)
+
+-- of two names and these grants, tested under 21
+abbrev pub testedOf : List (List ℕ) → Side → ℕ → Reading Tested
+testedOf grants s c = andThen (readBook (ledgerOf 2 grants) (0x21 ∷ []) 20240131) (λ b. accepted (testUnder (b .ledger) (b .asked) s c))
+
+-- 00 for 01, 00 for 20, 01 for 00, and 00 for 01 again; the label of the second is 41 00, so that it is not spoken, those of the others 41 20
+unfoldable pub fourGrants : List (List ℕ)
+fourGrants = grantBlockOf (0x00 ∷ []) (0x01 ∷ []) (0x41 ∷ 0x20 ∷ []) ∷ grantBlockOf (0x00 ∷ []) (0x20 ∷ []) (0x41 ∷ 0x00 ∷ [])
+    ∷ grantBlockOf (0x01 ∷ []) (0x00 ∷ []) (0x41 ∷ 0x20 ∷ []) ∷ grantBlockOf (0x00 ∷ []) (0x01 ∷ []) (0x41 ∷ 0x20 ∷ []) ∷ []
+
+-- 40 00 for 01, and 41 01 for q, both labelled 41 20
+unfoldable pub twoGrants : List ℕ → List (List ℕ)
+twoGrants q = grantBlockOf (0x40 ∷ 0x00 ∷ []) (0x01 ∷ []) (0x41 ∷ 0x20 ∷ []) ∷ grantBlockOf (0x41 ∷ 0x01 ∷ []) q (0x41 ∷ 0x20 ∷ []) ∷ []
+
+pub record TestCases : Type 0 where
+  -- on both sides alike
+  pub four-0 : (s : Side) → testedOf fourGrants s 0 ≡ accepted (sound 3)
+  pub four-1 : (s : Side) → testedOf fourGrants s 1 ≡ accepted (broken 1)
+  pub four-2 : (s : Side) → testedOf fourGrants s 2 ≡ accepted (broken 2)
+  pub four-3 : (s : Side) → testedOf fourGrants s 3 ≡ accepted (sound 3)
+  pub no-grants : (s : Side) → testedOf [] s 0 ≡ accepted (sound 0)
+  -- on the see side 41 01 is held by all, and 20 by none
+  pub see-0 : testedOf (twoGrants (0x20 ∷ [])) confidentiality 0 ≡ accepted (broken 2)
+  pub see-1 : testedOf (twoGrants (0x20 ∷ [])) confidentiality 1 ≡ accepted (broken 1)
+  -- there 41 20 is held by all
+  pub see-0-kept : testedOf (twoGrants (0x41 ∷ 0x20 ∷ [])) confidentiality 0 ≡ accepted (sound 2)
+  pub see-1-kept : testedOf (twoGrants (0x41 ∷ 0x20 ∷ [])) confidentiality 1 ≡ accepted (broken 1)
+  -- on the change side 40 00 is held by all, and 01 by 2 and 3
+  pub change-0 : testedOf (twoGrants (0x20 ∷ [])) integrity 0 ≡ accepted (broken 1)
+  pub change-1 : testedOf (twoGrants (0x20 ∷ [])) integrity 1 ≡ accepted (broken 1)
+  pub change-2 : testedOf (twoGrants (0x20 ∷ [])) integrity 2 ≡ accepted (broken 2)
+  pub change-3 : testedOf (twoGrants (0x20 ∷ [])) integrity 3 ≡ accepted (broken 2)

@@ -1,3 +1,4 @@
 pub mod Notation
 pub mod Days
+pub mod Testing
 pub mod Cases

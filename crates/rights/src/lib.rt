@@ -3,8 +3,8 @@
 use derivations::Checked;
 use extracts::Extracted;
 use questions::Answer;
-use questions::Side;
 use short_forms::ShortForm;
+use words::Side;
 ghost use mathlib.Core.Path.{_≡_};
 ghost use Rattle.model.specs.Answers.{number};
 ghost use Rattle.model.specs.Questions.{actsFor, flowsTo};

@@ -33,7 +33,7 @@ module _ (i c : ℕ) where
   no-member e = ne-eqb (c / 2 ^ i % 2) 1 e
 
   pub less-fits : i ≤ 12 → c / 2 ^ i % 2 ≡ 1 → 1 * 2 ^ i % 2 ^ 64 ≤ c
-  less-fits h e = rw (shifted i h) (member-le i c (is-member e))
+  less-fits h e = rw (shifted i (omega arith)) (member-le i c (is-member e))
 
 module _ (n : ℕ) (f : ℕ → Bool) (c : ℕ) where
   needed : ℕ → Bool

@@ -1,23 +1,26 @@
 -- Rows of the coalitions that keep each grant whose bit is set, one grant after another. Assumes nothing.
 use mathlib.Core.Path.{_≡_, refl, sym, ap, _∙_}
-use mathlib.Core.Bool.{Bool, true, false, not, _&&_, and-true, and-assoc}
-use mathlib.Core.List.{List}
+use mathlib.Core.Bool.{Bool, true, false, cond, not, _&&_, and-true, and-assoc}
+use mathlib.Core.List.{List, [], _∷_, _++_}
 use Prim.Native.Nat.{ℕ, _+_, _/_, _%_, _^_, _≤_}
 use native.Mathlib.Numerals.{add-one}
-use native.Mathlib.Omega.{arith}
+use native.Mathlib.Decide.{le-ind}
 use lib.Bits.{bitAnd}
 use lib.Pow.{shr-shr}
 use borrow.Author.Tests.{eq-eqb, ne-eqb}
-use Rattle.model.specs.Coalitions.{member, Marks, implies, every}
+use Rattle.model.specs.Sides.{Side}
+use Rattle.model.specs.Coalitions.{member, Marks, implies}
 use Rattle.model.specs.Terms.{held}
-use Rattle.model.specs.Grants.{Grant, marksOf, keeps}
-use Rattle.model.proofs.Truth.{clash, false-of}
-use Rattle.model.proofs.Search.{every-elim, every-intro}
+use Rattle.model.specs.Grants.{Grant, marksOf, keeps, sound, soundOf}
+use Rattle.model.specs.Testing.{Tested, testOf}
+use Rattle.model.proofs.Truth.{clash}
+use Rattle.model.proofs.Sound.{sound-append}
+use Rattle.model.proofs.Testing.{test-sound, test-ended}
 use Rattle.words.specs.declared.Rows.{Rows}
 use Rattle.words.specs.FourWords.{RowsAt, eachRow, lacksWord, emptyRows}
 use Rattle.words.proofs.FourWords.{rows-cong, rows-empty, rows-both, rows-rest}
 use Rattle.counting.specs.Counted.{grantIn}
-use Rattle.soundness.specs.Keeping.{breaks, soundIn}
+use Rattle.soundness.specs.Keeping.{breaks, chosenIn, soundIn}
 
 -- ---- one grant
 
@@ -66,56 +69,82 @@ kept-all d f g of gone a b none =
 
 -- ---- the grants one after another
 
+module _ (ledger : List ℕ) (bits : ℕ) where
+  pub chosen-next : (k : ℕ) → chosenIn ledger (k + 1) bits ≡ chosenIn ledger k bits ++ cond (member k bits) (grantIn ledger k ∷ []) []
+  unfolding chosenIn
+  chosen-next k = ap (λ (j : ℕ). chosenIn ledger j bits) (add-one k)
+
+  sound-next : (k : ℕ) (s : Side) (c : ℕ) → soundIn ledger (k + 1) bits s c ≡ (soundIn ledger k bits s c && implies (member k bits) (keeps (marksOf (grantIn ledger k)) s c))
+  unfolding soundIn sound
+  sound-next k s c =
+      ap (λ (gs : List Grant). soundOf gs s c) (chosen-next k)
+      ∙ sound-append (chosenIn ledger k bits) (cond (member k bits) (grantIn ledger k ∷ []) []) s c
+      ∙ ap (λ (b : Bool). soundOf (chosenIn ledger k bits) s c && b) (by (member k bits))
+    where
+      by : (b : Bool) → soundOf (cond b (grantIn ledger k ∷ []) []) s c ≡ implies b (keeps (marksOf (grantIn ledger k)) s c)
+      by true = and-true (keeps (marksOf (grantIn ledger k)) s c)
+      by false = refl
+
+  module _ (s : Side) (c k : ℕ) where
+    -- the test says whether it is sound
+    pub test-says : testOf (chosenIn ledger k bits) s c .is-sound ≡ soundIn ledger k bits s c
+    unfolding soundIn
+    test-says = test-sound s c (chosenIn ledger k bits)
+
+    -- one of the first k is broken: the test of more grants is the same
+    pub broken-stays : (m : ℕ) → soundIn ledger k bits s c ≡ false → k ≤ m → testOf (chosenIn ledger m bits) s c ≡ testOf (chosenIn ledger k bits) s c
+    broken-stays m e =
+        le-ind (λ (j : ℕ). testOf (chosenIn ledger j bits) s c ≡ testOf (chosenIn ledger k bits) s c) refl
+        (λ j h q. unfold chosenIn in (test-ended s c _ (chosenIn ledger j bits) (ap (λ (t : Tested). t .is-sound) q ∙ test-says ∙ e) ∙ q)) m
+
+  -- so it is not sound with more either
+  pub unsound-stays : (s : Side) (c k m : ℕ) → soundIn ledger k bits s c ≡ false → k ≤ m → soundIn ledger m bits s c ≡ false
+  unsound-stays s c k m e h = sym (test-says s c m) ∙ ap (λ (t : Tested). t .is-sound) (broken-stays s c k m e h) ∙ test-says s c k ∙ e
+
 module _ (ledger : List ℕ) (chosen : ℕ) (f : Marks) (g : ℕ) where
   -- those of f that keep each of the first k grants whose bit is set
   abbrev pub keepFirst : ℕ → Marks
   keepFirst k s c = f s c && soundIn ledger k chosen s c
 
   pub keep-none : (of : Rows) → RowsAt f g of → RowsAt (keepFirst 0) g of
-  unfolding soundIn every
+  unfolding soundIn chosenIn sound
   keep-none of h = rows-cong g f (keepFirst 0) of (λ s c _ _. sym (and-true (f s c))) h
 
   -- no coalition is left, so none is with further grants
   pub keep-empty : (k grants : ℕ) (x : Rows) → k ≤ grants → RowsAt (keepFirst k) g x → emptyRows x ≡ true → RowsAt (keepFirst grants) g x
-  unfolding soundIn
   keep-empty k grants x most h none =
       rows-cong g (keepFirst k) (keepFirst grants) x (λ s c low high.
-      let kept : ℕ → Bool = λ j. implies (member j chosen) (keeps (marksOf (grantIn ledger j)) s c) in
-      gone (f s c) (soundIn ledger k chosen s c) (soundIn ledger grants chosen s c)
-      (λ t. every-intro kept k (λ j l. every-elim kept grants t j (omega arith)))
+      gone (f s c) (soundIn ledger k chosen s c) (soundIn ledger grants chosen s c) (λ e. unsound-stays ledger chosen s c k grants e most)
       (rows-empty g (keepFirst k) x h none s c low high)) h
     where
-      gone : (a b d : Bool) → (d ≡ true → b ≡ true) → (a && b) ≡ false → (a && b) ≡ (a && d)
+      gone : (a b d : Bool) → (b ≡ false → d ≡ false) → (a && b) ≡ false → (a && b) ≡ (a && d)
       gone false b d i z = refl
-      gone true b d i z = z ∙ sym (false-of d (λ t. clash (i t) z))
+      gone true b d i z = z ∙ sym (i z)
 
   module _ (k : ℕ) (x : Rows) where
     -- those that keep grant k if its bit is set
     pub keep-step : RowsAt (λ s c. keepFirst k s c && implies (member k chosen) (keeps (marksOf (grantIn ledger k)) s c)) g x → RowsAt (keepFirst (k + 1)) g x
-    unfolding soundIn every
     keep-step = rows-cong g _ (keepFirst (k + 1)) x (λ s c _ _.
-        and-assoc (f s c) (soundIn ledger k chosen s c) (implies (member k chosen) (keeps (marksOf (grantIn ledger k)) s c)) ∙ ap (λ (j : ℕ). keepFirst j s c) (sym (add-one k)))
+        and-assoc (f s c) (soundIn ledger k chosen s c) (implies (member k chosen) (keeps (marksOf (grantIn ledger k)) s c)) ∙ ap (λ (b : Bool). f s c && b) (sym (sound-next ledger chosen k s c)))
 
     -- the bit is set, and those of the rows that keep the grant were taken
-    keep-more : member k chosen ≡ true → RowsAt (keeping (keepFirst k) (grantIn ledger k)) g x → RowsAt (keepFirst (k + 1)) g x
+    pub keep-more : member k chosen ≡ true → RowsAt (keeping (keepFirst k) (grantIn ledger k)) g x → RowsAt (keepFirst (k + 1)) g x
     keep-more on h = keep-step (rw on h)
 
     -- the bit is not set
-    keep-skip : member k chosen ≡ false → RowsAt (keepFirst k) g x → RowsAt (keepFirst (k + 1)) g x
+    pub keep-skip : member k chosen ≡ false → RowsAt (keepFirst k) g x → RowsAt (keepFirst (k + 1)) g x
     keep-skip off h = keep-step (rw off (rows-cong g (keepFirst k) (λ s c. keepFirst k s c && true) x (λ s c _ _. sym (and-true (keepFirst k s c))) h))
 
 -- ---- as the code goes, the bits of the grants from k on being `left`
 
-pub bits-next : (chosen k left : ℕ) → left ≡ chosen / 2 ^ k → left / 2 ≡ chosen / 2 ^ (k + 1)
-bits-next chosen k left e = ap (λ (x : ℕ). x / 2) e ∙ shr-shr chosen k 1
+module _ (chosen k left : ℕ) (bits : left ≡ chosen / 2 ^ k) where
+  pub bits-next : left / 2 ≡ chosen / 2 ^ (k + 1)
+  bits-next = ap (λ (x : ℕ). x / 2) bits ∙ shr-shr chosen k 1
 
-module _ (ledger : List ℕ) (chosen : ℕ) (f : Marks) (g k left : ℕ) (x : Rows) (bits : left ≡ chosen / 2 ^ k) (so-far : RowsAt (keepFirst ledger chosen f g k) g x) where
-  pub so-far-keep : (gone y : Rows) → left % 2 ≡ 1 → RowsAt (λ s c. keepFirst ledger chosen f g k s c && breaks (marksOf (grantIn ledger k)) s c) g gone → y ≡ eachRow lacksWord x gone
-      → RowsAt (keepFirst ledger chosen f g (k + 1)) g y
+  pub bit-set : left % 2 ≡ 1 → member k chosen ≡ true
   unfolding member
-  so-far-keep gone y odd b e =
-      keep-more ledger chosen f g k y (eq-eqb (chosen / 2 ^ k % 2) 1 (rw bits at odd)) (kept-rows (grantIn ledger k) (keepFirst ledger chosen f g k) g x gone y so-far b e)
+  bit-set odd = eq-eqb (chosen / 2 ^ k % 2) 1 (rw bits at odd)
 
-  pub so-far-skip : (left % 2 ≡ 1 → ⊥) → RowsAt (keepFirst ledger chosen f g (k + 1)) g x
+  pub bit-unset : (left % 2 ≡ 1 → ⊥) → member k chosen ≡ false
   unfolding member
-  so-far-skip even = keep-skip ledger chosen f g k x (ne-eqb (chosen / 2 ^ k % 2) 1 (λ e. even (rw bits e))) so-far
+  bit-unset even = ne-eqb (chosen / 2 ^ k % 2) 1 (λ e. even (rw bits e))

@@ -1,2 +1,3 @@
 -- What the promises of this crate cite.
 pub mod Keeping
+pub mod Testing

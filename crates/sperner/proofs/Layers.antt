@@ -1,7 +1,6 @@
 -- How many coalitions have k members, and which layer is the largest. Assumes nothing.
 use mathlib.Core.Path.{_≡_, refl, ap, _∙_}
-use mathlib.Core.Logic.{_⊎_, inl, inr}
-use Prim.Native.Nat.{ℕ, zero, suc, _+_, _/_, _^_, _≤_, _<_, max}
+use Prim.Native.Nat.{ℕ, zero, suc, _+_, _/_, _^_, _≤_}
 use native.Mathlib.Nat.{le-antisymm}
 use native.Mathlib.Decide.{le-ind}
 use native.Mathlib.Omega.{arith}
@@ -10,9 +9,10 @@ use lib.Dec.{eqb}
 use lib.ListN.{length}
 use borrow.Author.Tests.{ne-eqb, eq-eqb, eqb-true}
 use Rattle.model.specs.Coalitions.{those}
-use Rattle.model.specs.Layers.{size, layer, largest, largestLayer}
+use Rattle.model.specs.Layers.{size, layer, largestLayer}
 use Rattle.model.proofs.Listed.{those-none}
-use Rattle.model.proofs.Truth.{below-suc, bool-ext}
+use Rattle.model.proofs.Truth.{bool-ext}
+use Rattle.model.proofs.Largest.{largest-least, largest-above}
 use Rattle.sperner.specs.Antichains.{choose, LayersAreBinomial, MiddleLayerIsLargest, TwelveNames}
 use Rattle.sperner.proofs.Counts.{count, count-double, count-cong}
 use Rattle.sperner.proofs.Chains.{count-chains}
@@ -58,20 +58,6 @@ pub apart-few : (n : ℕ) (f : ℕ → Bool) → Apart n f → count f (2 ^ n) �
 unfolding layer
 apart-few n f apart =
     omega (arith, count-chains f n, apart-most n f apart (all-chains n), middle-met n (all-chains n), count-chains (ofSize n (n / 2)) n)
-
-largest-least : (f : ℕ → ℕ) (k m : ℕ) → ((j : ℕ) → j < k → f j ≤ m) → largest f k ≤ m
-unfolding largest
-largest-least f zero m h = omega arith
-largest-least f (suc k) m h = omega (arith, largest-least f k m (λ j l. h j (omega arith)), h k (omega arith))
-
-largest-above : (f : ℕ → ℕ) (k j : ℕ) → j < k → f j ≤ largest f k
-unfolding largest
-largest-above f zero j l = absurd (omega arith)
-largest-above f (suc k) j l = go (below-suc l) (largest-above f k j)
-  where
-    go : (j < k) ⊎ (j ≡ k) → (j < k → f j ≤ largest f k) → f j ≤ max (largest f k) (f k)
-    go (inl m) h = omega (arith, h m)
-    go (inr e) h = omega (arith, ap f e)
 
 pub largest-middle : (n : ℕ) → largestLayer n ≡ layer n (n / 2)
 unfolding largestLayer

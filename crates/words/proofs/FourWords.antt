@@ -6,7 +6,9 @@ use native.Mathlib.Omega.{arith}
 use lib.Bits.{bitAnd, bitOr, or-add-and, and-le-l, and-le-r}
 use borrow.Author.Tests.{eq-eqb, eqb-true}
 use Rattle.model.specs.Sides.{Side, confidentiality, integrity}
-use Rattle.model.specs.Coalitions.{Marks, packed}
+use Rattle.model.specs.Coalitions.{Marks, packed, Lowest, nowhere, at, lowest}
+use Rattle.model.proofs.Truth.{clash, or-elim}
+use Rattle.model.proofs.Search.{lowest-nowhere, lowest-at}
 use Rattle.words.specs.declared.Row.{Row}
 use Rattle.words.specs.declared.Rows.{Rows}
 use Rattle.words.specs.FourWords.{wordIn, rowOn, RowAt, RowsAt, eachWord, eachRow, lacks, lacksWord, sameRow, sameRows, emptyRow, emptyRows}
@@ -111,6 +113,23 @@ module _ (f : ℕ → Bool) (g : ℕ) (x : Row) (r : RowAt f g x) where
 
 -- ---- rows on both sides
 
+-- a coalition of row g that is marked, on some side
+pub record MarkedIn (f : Marks) (g : ℕ) : Type 0 where
+  pub side : Side
+  pub coalition : ℕ
+  pub low : 256 * g ≤ coalition
+  pub high : coalition < 256 * g + 256
+  pub marked : f side coalition ≡ true
+
+neither : (f : Marks) (s : Side) (c : ℕ) → (f confidentiality c || f integrity c) ≡ false → f s c ≡ false
+neither f s c = by s (f confidentiality c) (f integrity c) refl refl
+  where
+    by : (s : Side) (a b : Bool) → f confidentiality c ≡ a → f integrity c ≡ b → (a || b) ≡ false → f s c ≡ false
+    by confidentiality false b p q z = p
+    by confidentiality true b p q z = absurd (true≢false z)
+    by integrity false b p q z = q ∙ z
+    by integrity true b p q z = absurd (true≢false z)
+
 module _ (g : ℕ) where
   pub rows-each : (op : ℕ → ℕ → ℕ) (k : Marks) (x y : Rows) → ((s : Side) → RowAt (k s) g (eachWord op (rowOn x s) (rowOn y s))) → RowsAt k g (eachRow op x y)
   rows-each op k x y e = record { row = λ s. subst (RowAt (k s) g) (sym (each-on op x y s)) (e s) }
@@ -128,14 +147,29 @@ module _ (g : ℕ) where
   -- rows that are empty on both sides have no coalition
   pub rows-empty : (f : Marks) (x : Rows) → RowsAt f g x → emptyRows x ≡ true → (s : Side) (c : ℕ) → 256 * g ≤ c → c < 256 * g + 256 → f s c ≡ false
   rows-empty f x r e s c low high =
-      by s (f confidentiality c) (f integrity c) refl refl
+      neither f s c
       (row-empty (λ c. f confidentiality c || f integrity c) g _ (row-either g (f confidentiality) (f integrity) (x .see) (x .change) (r .row confidentiality) (r .row integrity)) e c low high)
+
+  -- and rows that are not have one
+  pub rows-some : (f : Marks) (x : Rows) → RowsAt f g x → emptyRows x ≡ false → MarkedIn f g
+  rows-some f x r e = by (lowest (λ j. on (256 * g + j)) 256) refl
     where
-      by : (s : Side) (a b : Bool) → f confidentiality c ≡ a → f integrity c ≡ b → (a || b) ≡ false → f s c ≡ false
-      by confidentiality false b p q z = p
-      by confidentiality true b p q z = absurd (true≢false z)
-      by integrity false b p q z = q ∙ z
-      by integrity true b p q z = absurd (true≢false z)
+      on : ℕ → Bool
+      on c = f confidentiality c || f integrity c
+
+      none : ((j : ℕ) → j < 256 → on (256 * g + j) ≡ false) → emptyRows x ≡ true
+      none h = empty-row on g _ (row-either g (f confidentiality) (f integrity) (x .see) (x .change) (r .row confidentiality) (r .row integrity))
+          (λ c low high. let q : 256 * g + (c - 256 * g) ≡ c = omega arith in subst (λ (d : ℕ). on d ≡ false) q (h (c - 256 * g) (omega arith)))
+
+      by : (a : Lowest) → lowest (λ j. on (256 * g + j)) 256 ≡ a → MarkedIn f g
+      by nowhere q = absurd (clash (none (lowest-nowhere (λ j. on (256 * g + j)) 256 .0 q)) e)
+      by (at j) q =
+          let l = lowest-at (λ j. on (256 * g + j)) 256 j .0 q in
+          let high : 256 * g + j < 256 * g + 256 = omega (arith, l .below) in
+          or-elim (f confidentiality (256 * g + j)) (f integrity (256 * g + j))
+          (λ m. record { side = confidentiality; coalition = 256 * g + j; low = omega arith; high = high; marked = m })
+          (λ m. record { side = integrity; coalition = 256 * g + j; low = omega arith; high = high; marked = m })
+          (l .there)
 
   -- those of the rows of f that are not among those of h
   pub rows-rest : (f h : Marks) (x y : Rows) → RowsAt f g x → RowsAt h g y → RowsAt (λ s. lacks (f s) (h s)) g (eachRow lacksWord x y)

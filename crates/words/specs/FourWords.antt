@@ -10,6 +10,13 @@ use Rattle.model.specs.Sides.{Side, confidentiality, integrity}
 use Rattle.model.specs.Coalitions.{Marks, packed}
 use Rattle.words.specs.declared.Row.{Row}
 use Rattle.words.specs.declared.Rows.{Rows}
+use Rattle.words.specs.declared.Side.{Side as CodeSide}
+use Rattle.words.specs.declared.Side.the-variants.{See, Change}
+
+-- the see side is confidentiality, the change side integrity
+abbrev pub sideOf : CodeSide → Side
+sideOf See = confidentiality
+sideOf Change = integrity
 
 -- word j of a row
 abbrev pub wordIn : Row → ℕ → ℕ

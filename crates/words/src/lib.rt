@@ -16,6 +16,11 @@ const NONE: u64 = 0;
 
 const ALL: u64 = 0xFFFF_FFFF_FFFF_FFFF;
 
+pub enum Side {
+    See,
+    Change,
+}
+
 // A row of a set of coalitions: its four words, lowest first.
 pub struct Row {
     pub a: u64,

@@ -6,9 +6,10 @@ use native.Mathlib.Nat.{le-trans, le-of-eq}
 use native.Mathlib.Omega.{arith}
 use borrow.Author.Tests.{not-true, not-false}
 use Rattle.model.specs.Coalitions.{member}
+use Rattle.model.proofs.Packed.{shifted}
 use Rattle.model.proofs.Monotone.{member-le}
 use Rattle.counting.specs.Counted.{countsAt}
-use Rattle.counting.proofs.Knowing.{one-bit, bit-on, bit-off, may-below, judged-never, judged-before, judged-yes, judged-no}
+use Rattle.counting.proofs.Knowing.{bit-on, bit-off, may-below, judged-never, judged-before, judged-yes, judged-no}
 use borrow.Author.Needs.{needs}
 use Rattle.counting.proofs.judge.Statement.{statement}
 use Rattle.counting.proofs.judge.Tie as tie
@@ -46,7 +47,7 @@ shl-bit c = below (c .before .before)
 sub-unjudged : tie.Need-sub-unjudged
 sub-unjudged c =
     let e = c .before .before .before in
-    le-trans (le-of-eq (one-bit _ (below e))) (member-le (start e .args .k) _ (bit-on _ _ (c .before .if2 .left)))
+    le-trans (le-of-eq (shifted _ (below e))) (member-le (start e .args .k) _ (bit-on _ _ (c .before .if2 .left)))
 
 counts-requires : tie.Need-counts-requires
 counts-requires c κs = search needs
@@ -56,12 +57,12 @@ returns-3 c =
     let s = c .before .before in
     let e = s .before .before .before in
     let a = start e .args in
-    judged-yes (a .k) (a .known) (may e) _ (one-bit (a .k) (below e)) (bit-on _ _ (s .before .if2 .left)) _ (sym (c .before .counts .ensures) ∙ c .if3 .taken)
+    judged-yes (a .k) (a .known) (may e) _ (shifted (a .k) (below e)) (bit-on _ _ (s .before .if2 .left)) _ (sym (c .before .counts .ensures) ∙ c .if3 .taken)
 
 sub-t12 : tie.Need-sub-t12
 sub-t12 c =
     let e = c .before .before .before .before .before .before in
-    le-trans (le-of-eq (one-bit _ (below e))) (member-le (start e .args .k) _ (may e))
+    le-trans (le-of-eq (shifted _ (below e))) (member-le (start e .args .k) _ (may e))
 
 returns-4 : tie.Need-returns-4
 returns-4 c =
@@ -69,7 +70,7 @@ returns-4 c =
     let s = k .before .before in
     let e = s .before .before .before in
     let a = start e .args in
-    judged-no (a .k) (a .known) (may e) _ (one-bit (a .k) (below e)) (bit-on _ _ (s .before .if2 .left)) _ (sym (k .before .counts .ensures) ∙ k .if3 .left)
+    judged-no (a .k) (a .known) (may e) _ (shifted (a .k) (below e)) (bit-on _ _ (s .before .if2 .left)) _ (sym (k .before .counts .ensures) ∙ k .if3 .left)
 
 pub judge-spec : {M : Type 1} → statement M
 judge-spec =

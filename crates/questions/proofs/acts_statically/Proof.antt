@@ -5,10 +5,10 @@ use mathlib.Core.List.{List}
 use Prim.Native.Nat.{ℕ}
 use borrow.Author.Needs.{needs}
 use Rattle.model.specs.Sides.{Side}
-use Rattle.model.specs.Coalitions.{every}
+use Rattle.model.specs.Grants.{sound}
 use Rattle.model.specs.Questions.{holds, refuted}
 use Rattle.model.proofs.Truth.{false-of}
-use Rattle.soundness.specs.Keeping.{soundIn}
+use Rattle.soundness.specs.Keeping.{chosenIn, soundIn}
 use Rattle.questions.specs.Searching.{verdictOf}
 use Rattle.questions.proofs.Refuting.{judged-static}
 use Rattle.questions.proofs.acts_statically.Statement.{statement}
@@ -16,7 +16,7 @@ use Rattle.questions.proofs.acts_statically.Tie as tie
 
 -- every coalition keeps no grants
 all-sound : (ledger : List ℕ) (chosen : ℕ) (s : Side) (c : ℕ) → soundIn ledger 0 chosen s c ≡ true
-unfolding soundIn every
+unfolding soundIn chosenIn sound
 all-sound ledger chosen s c = cc
 
 not-both : (s : Side) (c : ℕ) → refuted s c ≡ holds → false ≡ true

@@ -147,6 +147,22 @@ module _ (ledger : List ℕ) (bits : ℕ) (f : Marks) (g : ℕ) where
     pub tested-skip : member k bits ≡ false → TestedTo ledger (k + 1) bits f g (record { tested = tested; rows = x })
     tested-skip off = record { rows = keep-skip ledger bits f g k x off (to .rows); count = to .count ∙ count-skip ledger bits f g k off }
 
+-- ---- at most all grants
+
+chosen-few : (ledger : List ℕ) (bits k : ℕ) → length (chosenIn ledger k bits) ≤ k
+unfolding chosenIn
+chosen-few ledger bits zero = omega arith
+chosen-few ledger bits (suc k) =
+    omega (arith, chosen-few ledger bits k, length-append (chosenIn ledger k bits) (cond (member k bits) (grantIn ledger k ∷ []) []), by (member k bits))
+  where
+    by : (b : Bool) → length (cond b (grantIn ledger k ∷ []) []) ≤ 1
+    by true = omega arith
+    by false = omega arith
+
+pub tested-few : (ledger : List ℕ) (grants bits : ℕ) (s : Side) (c : ℕ) → testIn ledger grants bits s c .tested ≤ grants
+unfolding testIn
+tested-few ledger grants bits s c = omega (arith, test-most s c (chosenIn ledger grants bits), chosen-few ledger bits grants)
+
 -- ---- one coalition alone
 
 only-self : (s : Side) (c : ℕ) → only s c s c ≡ true

@@ -11,14 +11,10 @@ use Rattle.model.specs.Sides.{Side}
 use Rattle.model.specs.Coalitions.{implies}
 use Rattle.model.specs.Terms.{held}
 use Rattle.model.specs.Grants.{Grant, marksOf, keeps, sound, soundOf}
-use Rattle.model.specs.Testing.{Tested, oneMore, test, testOf}
+use Rattle.model.specs.Testing.{Tested, oneMore, ended, test, testOf}
 use Rattle.model.specs.Meanings.{Keeps, BreaksFirst}
 use Rattle.model.proofs.Truth.{implies-elim}
 use Rattle.model.proofs.Sound.{sound-elim, sound-intro}
-
--- it ends at a grant that is broken
-abbrev ended : Tested
-ended = record { is-sound = false; tested = 1 }
 
 module _ (s : Side) (c : ℕ) where
   -- the verdict is whether the coalition is sound

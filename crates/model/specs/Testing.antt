@@ -16,9 +16,12 @@ abbrev pub oneMore : Tested → Tested
 oneMore t = record { is-sound = t .is-sound; tested = suc (t .tested) }
 
 -- a grant that is broken is the last that is tested
+abbrev pub ended : Tested
+ended = record { is-sound = false; tested = 1 }
+
 unfoldable pub test : List GrantMarks → Side → ℕ → Tested
 test [] s c = record { is-sound = true; tested = 0 }
-test (g ∷ gs) s c = cond (keeps g s c) (oneMore (test gs s c)) (record { is-sound = false; tested = 1 })
+test (g ∷ gs) s c = cond (keeps g s c) (oneMore (test gs s c)) ended
 
 -- of written grants
 abbrev pub testOf : List Grant → Side → ℕ → Tested

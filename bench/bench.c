@@ -37,9 +37,9 @@ static const struct engine *const engines[] = {
 enum { LIBRARY, REFERENCE, EARLIER, ENGINES = sizeof engines / sizeof *engines };
 
 /* How many of the engines have this call: an earlier archive doesn't have those of trials.h. */
-static unsigned engines_with(enum operation operation)
+static unsigned engines_with(unsigned operation)
 {
-    return operation == READ_TEXT || operation == WRITE_TERM || operation == ADD_DAYS ? EARLIER : ENGINES;
+    return operation < C_OPERATIONS ? ENGINES : EARLIER;
 }
 
 /* How many of these answer it: an archive of before version 3 doesn't know days. */
@@ -167,9 +167,12 @@ static void measure(unsigned engine_count, unsigned count, struct measured *meas
                 next_row(e, count, &measured[e]);
 }
 
-/* A no is a late one, and what is refused has too many codes. */
-static bool is_wanted(uint32_t answer, unsigned kind, unsigned n)
+/* A test ends at the first grant or is sound after all. Any other no is a late one, and what is refused has too many
+ * codes. */
+static bool is_wanted(const struct call *call, uint32_t answer, unsigned kind, unsigned n)
 {
+    if (call->operation == TEST_COALITION)
+        return answer == kind * PER_KIND + (kind == NO ? 1 : grant_count(&call->ledger));
     if (kind == REFUSED)
         return answer == REFUSED * PER_KIND + 83;
     return kind == NO ? is_late_no(answer, n) : kind_of(answer) == kind;
@@ -193,7 +196,7 @@ static void print_line(const char *what, unsigned count, unsigned kind, unsigned
     unsigned engine_count = engines_for(&calls[0]), columns = engines_with(calls[0].operation);
     measure(engine_count, count, measured);
     for (unsigned i = 0; i < count; i++)
-        expect(what, answers_of[i], engine_count, is_wanted(answers_of[i][0], kind, n));
+        expect(what, answers_of[i], engine_count, is_wanted(&calls[i], answers_of[i][0], kind, n));
     double library = measured[LIBRARY].best, reference = measured[REFERENCE].best, ratio = reference / library;
     printf("  %-26s %12.2f %14.2f %8.*f", what, library, reference, ratio < 0.1 ? 3 : 1, ratio);
     for (unsigned e = EARLIER; e < engine_count; e++)
@@ -220,6 +223,10 @@ static const struct row {
     {"acts-for, chain, dated", make_dated_chain_yes, YES},
     {"extract, chain, dated", make_dated_chain_extract, YES},
     {"64-step derivation, dated", make_dated_derivation, YES},
+    {"extract, early", make_early_extract, YES},
+    {"acts-for, yes, early", make_early_yes, YES},
+    {"test, early", make_early_test, NO},
+    {"test, sound", make_sound_test, YES},
 };
 
 static const struct row notation_rows[] = {
@@ -261,6 +268,7 @@ static void print_job(struct job job)
     printf("%u names, %u grants, %u codes\n", job.n, job.grants, job.codes);
     print_ledger("chain", make_chain_extract, job);
     print_ledger("breaking", make_breaking_extract, job);
+    print_ledger("early", make_early_extract, job);
     print_head("", ENGINES);
     print_rows(rows, sizeof rows / sizeof *rows, job);
 }

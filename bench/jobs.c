@@ -137,6 +137,13 @@ static void add_against(struct source *source, struct ledger *ledger, struct job
     add_breaking(source, ledger, job, names);
 }
 
+/* Any one of the names for all of them: broken by a coalition that has some and not all. */
+static void add_any_for_all(struct source *source, struct ledger *ledger, struct job job, const unsigned *names)
+{
+    struct term p = tree(source, EITHER, names, job.n, job.codes), q = tree(source, BOTH, names, job.n, job.codes);
+    add_counting(ledger, &p, &q);
+}
+
 /* ---- Ledgers ---- */
 
 static void start_call(struct call *call, struct job job)
@@ -178,6 +185,20 @@ static void draw_breaking(struct source *source, struct call *call, struct job j
     for (unsigned i = 0; i < job.grants; i++) {
         shuffle(source, names, 0, job.n);
         add_breaking(source, &call->ledger, job, names);
+    }
+}
+
+/* A call on an early ledger. */
+static void start_early(struct call *call, struct job job, unsigned seed)
+{
+    struct source source = {seed};
+    unsigned names[NAMES];
+    start_call(call, job);
+    shuffle(&source, names, 0, job.n);
+    add_any_for_all(&source, &call->ledger, job, names);
+    while (grant_count(&call->ledger) < job.grants) {
+        shuffle(&source, names, 0, job.n);
+        add_breaking(&source, &call->ledger, job, names);
     }
 }
 
@@ -255,13 +276,18 @@ void make_static_yes(struct call *call, struct job job, unsigned seed)
     call->q = mixed_tree(&source, names, count, job.codes);
 }
 
+static void ask_first_grant(struct call *call)
+{
+    call->operation = ACTS_FOR;
+    call->p = term_of_grant(&call->ledger, 0, 0);
+    call->q = term_of_grant(&call->ledger, 0, 1);
+}
+
 void make_granted_yes(struct call *call, struct job job, unsigned seed)
 {
     struct source source = {seed};
     draw_breaking(&source, call, job);
-    call->operation = ACTS_FOR;
-    call->p = term_of_grant(&call->ledger, 0, 0);
-    call->q = term_of_grant(&call->ledger, 0, 1);
+    ask_first_grant(call);
 }
 
 /* p is a both of the names from 6 up, or of half of the names where these are few. q is held always on the see side
@@ -338,6 +364,41 @@ void make_short_form(struct call *call, struct job job, unsigned seed)
     call->operation = SHORT_FORM;
     call->p = mixed_tree(&source, names, job.n, job.codes);
     call->buffer_length = BUFFER_ROOM; /* enough for earlier archives, which ask for more, too */
+}
+
+/* ---- Early ledgers ---- */
+
+void make_early_extract(struct call *call, struct job job, unsigned seed)
+{
+    start_early(call, job, seed);
+    set_extract(call);
+}
+
+void make_early_yes(struct call *call, struct job job, unsigned seed)
+{
+    start_early(call, job, seed);
+    ask_first_grant(call);
+}
+
+static void set_test(struct call *call, unsigned coalition)
+{
+    call->operation = TEST_COALITION;
+    call->number = number_of_test(SEE, coalition);
+}
+
+/* One of the names in the first grant, alone. */
+void make_early_test(struct call *call, struct job job, unsigned seed)
+{
+    start_early(call, job, seed);
+    unsigned names = names_in(&call->ledger, 0, 0);
+    set_test(call, names & (~names + 1));
+}
+
+/* No names: they hold no p. */
+void make_sound_test(struct call *call, struct job job, unsigned seed)
+{
+    start_early(call, job, seed);
+    set_test(call, 0);
 }
 
 /* ---- Days ---- */

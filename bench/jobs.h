@@ -5,9 +5,11 @@
  * on one day. A grant counts exactly if its label is its grantor's own word: 41 and then q. It has no days, or, in a
  * dated ledger, a first and a last day around that day.
  *
- * There are two sorts of ledgers. In a chain each name is granted to act for the next one, the names in some order
+ * There are three sorts of ledgers. In a chain each name is granted to act for the next one, the names in some order
  * and the grants in another; other grants stand between these, and half of the others don't count. In a breaking
  * ledger every grant counts, and breaks a coalition that no other grant breaks: one that holds its p and not its q.
+ * In an early one every grant counts too, and most coalitions break the first: that any of the names, or of as many as
+ * there are codes for, acts for all of them together.
  */
 #ifndef JOBS_H
 #define JOBS_H
@@ -28,6 +30,9 @@ make_call make_static_yes, make_chain_yes, make_chain_extract;
 
 /* On a breaking ledger; the no is as is_late_no says. */
 make_call make_late_no, make_breaking_extract, make_derivation;
+
+/* On an early ledger; the yes is p and q of the first grant, one test breaks that grant and the other is sound. */
+make_call make_early_extract, make_early_yes, make_early_test, make_sound_test;
 
 /* On grants that need not break anything of their own: p and q of the first. */
 make_call make_granted_yes;

@@ -209,6 +209,13 @@ static size_t take_buffer_length(struct input *in, size_t good)
     return draw < 255 ? good + draw - 224 : take_two(in) % (BUFFER_ROOM + 1);
 }
 
+/* A side, mostly 0 or 1, and a coalition of up to twelve names, now and then any number. */
+static uint64_t take_test(struct input *in)
+{
+    uint32_t side = take_below(in, 2), coalition = take(in) < 240 ? take_two(in) % (1u << NAMES) : take_four(in);
+    return number_of_test(side, coalition);
+}
+
 static void take_call(struct input *in, struct call *call)
 {
     memset(call, 0, sizeof *call);
@@ -231,6 +238,8 @@ static void take_call(struct input *in, struct call *call)
     call->label = take_term(in, n);
     if (call->operation == DERIVATION) {
         take_derivation(in, &call->ledger, &call->derivation, n);
+    } else if (call->operation == TEST_COALITION) {
+        call->number = take_test(in);
     } else if (call->operation != EXTRACT) {
         call->p = take_term(in, n);
         call->q = take_term(in, n);

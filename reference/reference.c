@@ -1,6 +1,7 @@
 /*
- * Document 01 in plain C, section by section, one coalition at a time, with the days of document 02, K2. Meant to
- * be seen to be right, not to be fast. A refusal is its number; 0 says that there is none.
+ * Document 01 in plain C, section by section, one coalition at a time, with the days of document 02, K2, and the test
+ * of a coalition of K3. Meant to be seen to be right, not to be fast. A refusal is its number; 0 says that there is
+ * none.
  */
 #include "reference.h"
 
@@ -319,6 +320,17 @@ static unsigned read_question(const uint8_t *ledger, size_t ledger_len, struct t
     return refusal;
 }
 
+/* The same without p and q, for other calls. */
+static unsigned read_under(const uint8_t *ledger, size_t ledger_len, const struct under *under, struct grants *grants)
+{
+    unsigned refusal = read_day(under->day);
+    if (!refusal)
+        refusal = read_ledger(ledger, ledger_len, grants);
+    if (!refusal)
+        refusal = read_from(40, grants->n, under->label);
+    return refusal;
+}
+
 /* On each side, does every sound coalition that holds that side's `from` hold its `to`? Soundness is asked
  * last, being the most work. */
 static uint32_t judge(const struct grants *counting, const struct term from[2], const struct term to[2])
@@ -387,6 +399,29 @@ uint32_t reference_extract(const uint8_t *ledger, size_t ledger_len, const uint8
     keep_counting(&grants, &under);
     write_extract(&grants, buffer);
     return yes();
+}
+
+/* ---- Test of a coalition ---- */
+
+/* As `sound`, with the number of grants tested: up to and with the first that the coalition breaks, or all. */
+static uint32_t test(const struct grants *counting, enum side side, unsigned coalition)
+{
+    for (uint32_t i = 0; i < counting->count; i++)
+        if (held(counting->grant[i].p, side, coalition) && !held(counting->grant[i].q, side, coalition))
+            return NO * PER_KIND + i + 1;
+    return YES * PER_KIND + (uint32_t)counting->count;
+}
+
+uint32_t reference_test_coalition(const uint8_t *ledger, size_t ledger_len, const uint8_t *label, size_t label_len,
+                                  uint32_t day, uint32_t side, uint32_t coalition)
+{
+    struct grants grants;
+    struct under under = {term_at(label, label_len), day};
+    unsigned refusal = read_under(ledger, ledger_len, &under, &grants);
+    if (refusal)
+        return refused(refusal);
+    keep_counting(&grants, &under);
+    return test(&grants, side == 0 ? SEE : CHANGE, coalition);
 }
 
 /* ---- Short form ---- */
@@ -554,11 +589,7 @@ uint32_t reference_check_derivation(const uint8_t *derivation, size_t derivation
 {
     struct grants grants;
     struct under under = {term_at(label, label_len), day};
-    unsigned refusal = read_day(day);
-    if (!refusal)
-        refusal = read_ledger(ledger, ledger_len, &grants);
-    if (!refusal)
-        refusal = read_from(40, grants.n, under.label);
+    unsigned refusal = read_under(ledger, ledger_len, &under, &grants);
     if (!refusal && (derivation_len % STEP != 0 || derivation_len < STEP || derivation_len > DERIVATION_MOST))
         refusal = 60;
     if (refusal)

@@ -31,6 +31,9 @@ uint32_t reference_write_term(uint64_t n, const uint8_t *term, size_t term_len, 
 
 uint32_t reference_add_days(uint32_t date, uint32_t count);
 
+uint32_t reference_test_coalition(const uint8_t *ledger, size_t ledger_len, const uint8_t *label, size_t label_len,
+                                  uint32_t day, uint32_t side, uint32_t coalition);
+
 /* A part of the ledger; an empty one is offset 0, length 0. */
 struct reference_part {
     size_t offset;

@@ -4,14 +4,15 @@
 
 const char *const operation_names[OPERATIONS] = {
     "acts-for", "flows-to", "extract", "short form", "derivation", "quoting", "read text", "write term", "add days",
+    "test",
 };
 
 const enum operation all_operations[OPERATIONS] = {
-    ACTS_FOR, FLOWS_TO, EXTRACT, SHORT_FORM, DERIVATION, QUOTE, READ_TEXT, WRITE_TERM, ADD_DAYS,
+    ACTS_FOR, FLOWS_TO, EXTRACT, SHORT_FORM, DERIVATION, QUOTE, READ_TEXT, WRITE_TERM, ADD_DAYS, TEST_COALITION,
 };
 
 const enum operation performed[PERFORMED] = {
-    ACTS_FOR, FLOWS_TO, EXTRACT, SHORT_FORM, DERIVATION, READ_TEXT, WRITE_TERM, ADD_DAYS,
+    ACTS_FOR, FLOWS_TO, EXTRACT, SHORT_FORM, DERIVATION, READ_TEXT, WRITE_TERM, ADD_DAYS, TEST_COALITION,
 };
 
 size_t buffer_length_of(enum operation operation)
@@ -33,7 +34,13 @@ size_t buffer_length_of(enum operation operation)
 const struct engine reference_engine = {
     "reference", reference_acts_for, reference_flows_to, reference_extract, reference_short_form,
     reference_check_derivation, reference_read_text, reference_write_term, reference_add_days,
+    reference_test_coalition,
 };
+
+uint64_t number_of_test(uint32_t side, uint32_t coalition)
+{
+    return (uint64_t)side << 32 | coalition;
+}
 
 static struct slice slice_of_term(const struct term *term)
 {
@@ -64,6 +71,12 @@ static uint32_t ask(question_call *question, const struct request *r)
                     r->label.bytes, r->label.length, r->day);
 }
 
+static uint32_t test(testing_call *call, const struct request *r)
+{
+    return call(r->ledger.bytes, r->ledger.length, r->label.bytes, r->label.length, r->day,
+                (uint32_t)(r->number >> 32), (uint32_t)r->number);
+}
+
 static uint32_t write_from_p(writing_call *call, const struct request *r)
 {
     return call(r->number, r->p.bytes, r->p.length, r->buffer, r->buffer_length);
@@ -87,6 +100,8 @@ uint32_t perform(const struct engine *engine, const struct request *r)
         return write_from_p(engine->write_term, r);
     case ADD_DAYS:
         return engine->add_days(r->day, (uint32_t)r->number);
+    case TEST_COALITION:
+        return test(engine->test_coalition, r);
     default:
         return engine->check_derivation(r->derivation.bytes, r->derivation.length, r->ledger.bytes,
                                         r->ledger.length, r->label.bytes, r->label.length, r->day);

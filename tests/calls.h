@@ -7,11 +7,22 @@
 
 #include "build.h"
 
-enum operation { ACTS_FOR, FLOWS_TO, EXTRACT, SHORT_FORM, DERIVATION, QUOTE, READ_TEXT, WRITE_TERM, ADD_DAYS };
+enum operation {
+    ACTS_FOR,
+    FLOWS_TO,
+    EXTRACT,
+    SHORT_FORM,
+    DERIVATION,
+    QUOTE,
+    READ_TEXT,
+    WRITE_TERM,
+    ADD_DAYS,
+    TEST_COALITION
+};
 
 enum {
     C_OPERATIONS = 5, /* those that C calls: the first */
-    OPERATIONS = 9,
+    OPERATIONS = 10,
     PERFORMED = OPERATIONS - 1, /* those that `perform` makes: all but quoting */
     BUFFER_ROOM = 20000
 };
@@ -31,8 +42,10 @@ struct call {
     struct term q;
     struct term label;
     struct derivation derivation;
-    uint32_t day;    /* of adding days: the date */
-    uint64_t number; /* n of a short form, of reading and of writing; the step that is quoted; the days to add */
+    uint32_t day; /* of adding days: the date */
+    /* n of a short form, of reading and of writing; the step that is quoted; the days to add; of a test, as
+     * `number_of_test` says */
+    uint64_t number;
     size_t buffer_length;
     uint8_t fill; /* every byte of the buffer before the call */
 };
@@ -52,6 +65,9 @@ struct request {
     size_t buffer_length;
 };
 
+/* A side and a coalition to test: the upper and the lower half of a number. */
+uint64_t number_of_test(uint32_t side, uint32_t coalition);
+
 /* The request of a call, on a buffer that has room for it. */
 struct request request_of(const struct call *call, uint8_t *buffer);
 
@@ -61,6 +77,7 @@ typedef uint32_t extract_call(const uint8_t *, size_t, const uint8_t *, size_t, 
 typedef uint32_t writing_call(uint64_t, const uint8_t *, size_t, uint8_t *, size_t);
 typedef uint32_t derivation_call(const uint8_t *, size_t, const uint8_t *, size_t, const uint8_t *, size_t, uint32_t);
 typedef uint32_t adding_call(uint32_t, uint32_t);
+typedef uint32_t testing_call(const uint8_t *, size_t, const uint8_t *, size_t, uint32_t, uint32_t, uint32_t);
 
 struct engine {
     const char *name;
@@ -72,6 +89,7 @@ struct engine {
     /* null in an engine without the calls of trials.h */
     writing_call *read_text, *write_term;
     adding_call *add_days;
+    testing_call *test_coalition;
 };
 
 extern const struct engine reference_engine;

@@ -1,6 +1,6 @@
 /*
- * The library against the reference on random calls: the number and every byte of the buffer. Before these, days are
- * added to every date.
+ * The library against the reference on random calls: the number and every byte of the buffer. A text that was written
+ * is read back, and of small extracts each coalition is tested. Before these, days are added to every date.
  *
  *     compare [CALLS [SEED [SECONDS]]]
  *
@@ -18,7 +18,7 @@
 #include <sys/mman.h>
 #include <time.h>
 
-enum { PAGE = 4096, DIFFERENCES_SHOWN = 10 };
+enum { PAGE = 4096, DIFFERENCES_SHOWN = 10, TESTED_NAMES = 4 };
 
 /* ---- Slices between pages that can't be touched ---- */
 
@@ -149,6 +149,8 @@ static uint32_t compare_call(const struct fences *fences, const struct request *
     return expected;
 }
 
+/* ---- What was written against another call ---- */
+
 /* Does a term that was written as a text, the buffer's first bytes, read back to the same codes? */
 static bool reads_back(const struct engine *engine, const struct request *r, uint32_t length)
 {
@@ -160,12 +162,44 @@ static bool reads_back(const struct engine *engine, const struct request *r, uin
     return same;
 }
 
-/* On both engines, the text of a term that was written. After any other call there is nothing to compare. */
-static bool compare_reading_back(const struct request *r, uint32_t number)
+static bool compare_reading_back(const struct request *r, uint32_t length)
 {
-    if (r->operation != WRITE_TERM || number / PER_KIND != YES)
+    return reads_back(&library_engine, r, length) && reads_back(&reference_engine, r, length);
+}
+
+/* Is the coalition, tested alone by the library, sound exactly if the extract in the buffer says so? */
+static bool tests_as_extracted(const struct request *extract, uint32_t side, uint32_t coalition)
+{
+    struct request test = *extract;
+    test.operation = TEST_COALITION;
+    test.number = number_of_test(side, coalition);
+    bool sound = extract->buffer[512 * side + coalition / 8] >> coalition % 8 & 1;
+    uint32_t number = perform(&library_engine, &test);
+    bool same = number / PER_KIND == (sound ? YES : NO);
+    if (!same)
+        printf("%s of coalition %lu on side %lu: %lu, unlike the extract\n", operation_names[TEST_COALITION],
+               (unsigned long)coalition, (unsigned long)side, (unsigned long)number);
+    return same;
+}
+
+/* Of jobs of few names alone, since for each coalition the whole ledger is weighed again. */
+static bool compare_testing(const struct request *extract)
+{
+    unsigned n = extract->ledger.bytes[1];
+    for (uint32_t c = 0; n <= TESTED_NAMES && c < 1u << n; c++)
+        if (!tests_as_extracted(extract, SEE, c) || !tests_as_extracted(extract, CHANGE, c))
+            return false;
+    return true;
+}
+
+/* What was written holds against another call: a text is read back, the coalitions of an extract are tested. */
+static bool compare_written(const struct request *r, uint32_t number)
+{
+    if (number / PER_KIND != YES)
         return true;
-    return reads_back(&library_engine, r, number) && reads_back(&reference_engine, r, number);
+    if (r->operation == WRITE_TERM)
+        return compare_reading_back(r, number);
+    return r->operation != EXTRACT || compare_testing(r);
 }
 
 /* ---- Many calls ---- */
@@ -195,7 +229,7 @@ static void compare_random_calls(const struct fences *fences, struct run *run)
         memset(buffer, call.fill, sizeof buffer);
         struct request request = request_of(&call, buffer);
         uint32_t number = compare_call(fences, &request, run->done / PERFORMED % 2 == 0, &same);
-        same = same && compare_reading_back(&request, number);
+        same = same && compare_written(&request, number);
         count_answer(&run->coverage, call.operation, number);
         run->done++;
         if (!same)

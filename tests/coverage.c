@@ -10,6 +10,29 @@ static const uint8_t refusals[OPERATIONS][24] = {
     [READ_TEXT] = {7, 81, 82, 83},
     [WRITE_TERM] = {7, 81, 1, 2, 3, 4},
     [ADD_DAYS] = {86},
+    [TEST_COALITION] = {86, 10, 11, 12, 13, 14, 84, 85, 41, 42, 43, 44},
+};
+
+/* What a yes is called. */
+static const char *const yes_names[OPERATIONS] = {
+    [ACTS_FOR] = "yes",
+    [FLOWS_TO] = "yes",
+    [EXTRACT] = "written",
+    [SHORT_FORM] = "written",
+    [DERIVATION] = "accepted",
+    [QUOTE] = "a part",
+    [READ_TEXT] = "written",
+    [WRITE_TERM] = "written",
+    [ADD_DAYS] = "a date",
+    [TEST_COALITION] = "sound",
+};
+
+/* What the noes are called; null where there is none. */
+static const char *const no_names[OPERATIONS][2] = {
+    [ACTS_FOR] = {"no, see", "no, change"},
+    [FLOWS_TO] = {"no, see", "no, change"},
+    [QUOTE] = {"an empty part"},
+    [TEST_COALITION] = {"broken by the first", "broken by a later one"},
 };
 
 bool is_refusal(unsigned number)
@@ -21,12 +44,18 @@ bool is_refusal(unsigned number)
     return false;
 }
 
+/* Which of an operation's noes this is. */
+static unsigned no_of(enum operation operation, uint32_t number)
+{
+    return operation == TEST_COALITION ? number % PER_KIND > 1 : number / PER_SIDE % 2;
+}
+
 void count_answer(struct coverage *coverage, enum operation operation, uint32_t number)
 {
     if (kind_of(number) == YES)
         coverage->yes[operation]++;
     else if (kind_of(number) == NO)
-        coverage->no[operation][number / PER_SIDE % 2]++;
+        coverage->no[operation][no_of(operation, number)]++;
     else
         coverage->refused[operation][number % PER_STEP]++;
 }
@@ -49,7 +78,8 @@ static unsigned print_count(const char *what, unsigned long count, FILE *to)
 static unsigned print_refusals(const struct coverage *coverage, unsigned operation, FILE *to)
 {
     unsigned missing = 0;
-    fprintf(to, "\n             refused:");
+    if (*refusals[operation] != 0)
+        fprintf(to, "\n             refused:");
     for (const uint8_t *r = refusals[operation]; *r != 0; r++) {
         char what[8];
         snprintf(what, sizeof what, "%u:", *r);
@@ -60,22 +90,13 @@ static unsigned print_refusals(const struct coverage *coverage, unsigned operati
 
 static unsigned print_operation(const struct coverage *coverage, unsigned operation, FILE *to)
 {
-    bool question = operation == ACTS_FOR || operation == FLOWS_TO;
-    const char *yes = question ? "yes" : operation == ADD_DAYS ? "a date" : "accepted or written";
-    unsigned missing = 0;
+    unsigned missing;
     fprintf(to, "%-11s", operation_names[operation]);
-    if (operation == QUOTE) {
-        missing += print_count("a part", coverage->yes[operation], to);
-        missing += print_count("an empty part", coverage->no[operation][0], to);
-    } else {
-        missing += print_count(yes, coverage->yes[operation], to);
-    }
-    if (question) {
-        missing += print_count("no, see", coverage->no[operation][0], to);
-        missing += print_count("no, change", coverage->no[operation][1], to);
-    }
-    if (operation != QUOTE)
-        missing += print_refusals(coverage, operation, to);
+    missing = print_count(yes_names[operation], coverage->yes[operation], to);
+    for (unsigned i = 0; i < 2; i++)
+        if (no_names[operation][i] != NULL)
+            missing += print_count(no_names[operation][i], coverage->no[operation][i], to);
+    missing += print_refusals(coverage, operation, to);
     fputc('\n', to);
     return missing;
 }

@@ -10,8 +10,9 @@
 #include <stdio.h>
 
 struct coverage {
-    unsigned long yes[OPERATIONS];   /* of quoting: a part; of adding days: a date */
-    unsigned long no[OPERATIONS][2]; /* by side; of quoting the first: an empty part */
+    unsigned long yes[OPERATIONS]; /* of quoting: a part; of adding days: a date; of a test: sound */
+    /* by side; of quoting the first: an empty part; of a test: broken by the first grant tested, or by a later one */
+    unsigned long no[OPERATIONS][2];
     unsigned long refused[OPERATIONS][256];
 };
 

@@ -12,9 +12,9 @@
  * An unpacked record, at most 65,536 bytes, is
  *
  *      0  4 bytes  the operation: 0 acts-for, 1 flows-to, 2 extract, 3 short form, 4 derivation, 5 quoting,
- *                  6 reading a text, 7 writing a term, 8 adding days
+ *                  6 reading a text, 7 writing a term, 8 adding days, 9 testing a coalition
  *      4  8 bytes  n of a short form, of reading and of writing; the step of quoting; of adding days, the count;
- *                  else 0
+ *                  of testing, the side in the first four bytes and the coalition in the last four; else 0
  *     12  4 bytes  the length of the ledger
  *     16  4 bytes  the length of p: of a short form and of writing, the term; of reading, the text
  *     20  4 bytes  the length of q
@@ -38,7 +38,7 @@
 #include <stdbool.h>
 #include <string.h>
 
-enum { CALLS = 6300, SEED = 2, RECORD_ROOM = 65536, SMALL = 700, FILE_MOST = 2000000 };
+enum { CALLS = 7000, SEED = 3, RECORD_ROOM = 65536, SMALL = 700, FILE_MOST = 2000000 };
 
 struct record {
     size_t length;
@@ -80,7 +80,8 @@ static struct result quoted(const struct request *r)
 static struct result answered(const struct request *r)
 {
     struct result result = {perform(&reference_engine, r), 0};
-    if (result.number / PER_KIND == YES) /* the number is the length, but of an extract; a date is no such number */
+    bool wrote = buffer_length_of(r->operation) > 0 && result.number / PER_KIND == YES;
+    if (wrote) /* the number is the length, but of an extract */
         result.length = r->operation == EXTRACT ? EXTRACT_SIZE : (size_t)result.number;
     return result;
 }

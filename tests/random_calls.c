@@ -59,6 +59,12 @@ static unsigned random_names(struct source *s)
     return draw < 250 ? between(s, 8, 10) : between(s, 11, NAMES);
 }
 
+/* For a test now and then more than eight, so that a coalition is more than a byte. */
+static unsigned names_for(struct source *s, enum operation operation)
+{
+    return operation == TEST_COALITION && one_in(s, 8) ? between(s, 9, NAMES) : random_names(s);
+}
+
 /* ---- Terms ---- */
 
 /* Mostly short, now and then of any length. */
@@ -569,6 +575,14 @@ static void add_last_grant_again(struct ledger *ledger)
     add_grant(ledger, &p, &q, &label);
 }
 
+/* Many different grants would leave nothing sound. Of a few, now and then one is there twice. */
+static bool again(struct source *s, unsigned grant, unsigned count)
+{
+    if (grant == 0)
+        return false;
+    return count > 9 ? grant + 1 < count && !one_in(s, 16) : one_in(s, 8);
+}
+
 static unsigned random_grant_count(struct source *s, unsigned n)
 {
     unsigned draw = below(s, 64);
@@ -581,15 +595,23 @@ static unsigned random_grant_count(struct source *s, unsigned n)
     return one_in(s, 3) ? GRANTS : below(s, GRANTS + 1);
 }
 
-/* In two of three ledgers half of the grants have days, many beginning or ending at one of these two. */
-static void random_ledger(struct source *s, struct ledger *ledger, unsigned n, const struct days *days)
+/* For a test mostly several, since it is the first broken one that matters; now and then as many as there can be. */
+static unsigned grant_count_for(struct source *s, enum operation operation, unsigned n)
 {
-    unsigned count = random_grant_count(s, n);
+    if (operation != TEST_COALITION || one_in(s, 4))
+        return random_grant_count(s, n);
+    return n <= 8 && one_in(s, 16) ? GRANTS : between(s, 2, 9);
+}
+
+/* So many grants. In two of three ledgers half of them have days, many beginning or ending at one of these two. */
+static void random_ledger(struct source *s, struct ledger *ledger, unsigned n, unsigned count,
+                          const struct days *days)
+{
     bool dated = !one_in(s, 3);
     start_ledger(ledger, n);
     for (unsigned i = 0; i < count; i++) {
-        if (i > 0 && i + 1 < count && count > 9 && !one_in(s, 16))
-            add_last_grant_again(ledger); /* many different ones would leave nothing sound */
+        if (again(s, i, count))
+            add_last_grant_again(ledger);
         else
             add_random_grant(s, ledger, n);
         if (dated && one_in(s, 2))
@@ -1187,12 +1209,33 @@ static void random_extract(struct source *s, struct call *call)
     maybe_spoil_buffer(s, call, bad_lengths);
 }
 
+/* Mostly see or change itself. */
+static uint32_t random_side(struct source *s)
+{
+    static const uint32_t other_numbers[] = {2, 3, 256, 65536, 0x80000000, UINT32_MAX};
+    return one_in(s, 8) ? other_numbers[below(s, sizeof other_numbers / sizeof *other_numbers)] : below(s, 2);
+}
+
+/* Mostly a coalition of the job, now and then with one other bit, or any number. */
+static uint32_t random_coalition(struct source *s, unsigned n)
+{
+    uint32_t number = (uint32_t)next(s), coalition = number % (1u << n);
+    unsigned draw = below(s, 8), other = between(s, n, 31);
+    return draw == 0 ? number : draw == 1 ? coalition | 1u << other : coalition;
+}
+
+static void random_test(struct source *s, struct call *call, unsigned n)
+{
+    uint32_t side = random_side(s);
+    call->number = number_of_test(side, random_coalition(s, n));
+}
+
 static void random_call_on_ledger(struct source *s, struct call *call)
 {
-    unsigned n = random_names(s);
+    unsigned n = names_for(s, call->operation), grants = grant_count_for(s, call->operation, n);
     struct days days = random_days(s);
     call->day = one_in(s, 16) ? doubtful_date(s) : one_of(s, &days);
-    random_ledger(s, &call->ledger, n, &days);
+    random_ledger(s, &call->ledger, n, grants, &days);
     call->label = random_label(s, &call->ledger, n);
     maybe_damage_term(s, &call->label, n);
     if (call->operation == ACTS_FOR || call->operation == FLOWS_TO) {
@@ -1201,6 +1244,8 @@ static void random_call_on_ledger(struct source *s, struct call *call)
         maybe_damage_term(s, &call->q, n);
     } else if (call->operation == EXTRACT) {
         random_extract(s, call);
+    } else if (call->operation == TEST_COALITION) {
+        random_test(s, call, n);
     } else {
         random_derivation(s, call, n);
         maybe_damage_derivation(s, &call->derivation, n);

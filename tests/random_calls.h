@@ -1,6 +1,6 @@
 /*
  * Random calls, the same for the same seed on every machine: good, damaged and hostile ledgers, labels, days,
- * terms, texts, buffers and derivations, of all n and all refusals.
+ * terms, texts, buffers, derivations and coalitions, of all n and all refusals.
  */
 #ifndef RANDOM_CALLS_H
 #define RANDOM_CALLS_H

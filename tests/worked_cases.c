@@ -1,6 +1,6 @@
 /*
- * The worked cases A to L of document 01, and of document 02 the short form's buffer by K12, the notation by K1 and days
- * by K2, on the reference and on the library.
+ * The worked cases A to L of document 01, and of document 02 the short form's buffer by K12, the notation by K1, days
+ * by K2 and the test of a coalition by K3, on the reference and on the library.
  */
 #include "calls.h"
 
@@ -39,11 +39,16 @@ static struct ledger plain(void)
     return ledger;
 }
 
+static void put_grant(struct ledger *ledger, const char *p, const char *q, const char *label)
+{
+    struct term tp = codes(p), tq = codes(q), tl = codes(label);
+    add_grant(ledger, &tp, &tq, &tl);
+}
+
 static struct ledger granted(const char *label)
 {
     struct ledger ledger = plain();
-    struct term p = codes("00"), q = codes("01"), d = codes(label);
-    add_grant(&ledger, &p, &q, &d);
+    put_grant(&ledger, "00", "01", label);
     return ledger;
 }
 
@@ -488,8 +493,7 @@ static uint32_t with_two_damages(const struct engine *e, unsigned dated, uint32_
                                  unsigned place, uint8_t value)
 {
     struct ledger ledger = granted(own_word);
-    struct term p = codes("00"), q = codes("01"), d = codes(own_word);
-    add_grant(&ledger, &p, &q, &d);
+    put_grant(&ledger, "00", "01", own_word);
     put_days(block_of(&ledger, dated + 1), first, last);
     put_byte(&ledger, grant + 1, place, value);
     return ask(e->acts_for, &ledger, "00", "01", own_word);
@@ -599,6 +603,154 @@ static void cases_of_dated_calls(const struct engine *e)
     expect(e, "K2", ask_on(e->acts_for, &l, "FF", "FF", "FF", SOME_DAY) == refused(10));
 }
 
+/* ---- K3: stop at the broken grant ---- */
+
+/* A label that no coalition holds on the change side: its grant counts, whatever q is and under whatever label. */
+static const char nobodys_word[] = "41 20";
+
+static uint32_t tested_on(const struct engine *e, const struct ledger *ledger, const char *label, uint32_t day,
+                          uint32_t side, uint32_t coalition)
+{
+    struct term l = codes(label);
+    return e->test_coalition(ledger->bytes, ledger->length, l.codes, l.length, day, side, coalition);
+}
+
+static uint32_t tested(const struct engine *e, const struct ledger *ledger, uint32_t side, uint32_t coalition)
+{
+    return tested_on(e, ledger, "21", SOME_DAY, side, coalition);
+}
+
+static uint32_t sound(unsigned count)
+{
+    return YES * PER_KIND + count;
+}
+
+static uint32_t broken(unsigned count)
+{
+    return NO * PER_KIND + count;
+}
+
+/* On this side coalitions 0 to 3 are tested so. */
+static void all_tested(const struct engine *e, const struct ledger *ledger, uint32_t side, const uint32_t expected[4])
+{
+    for (uint32_t c = 0; c < 4; c++)
+        expect(e, "K3", tested(e, ledger, side, c) == expected[c]);
+}
+
+/* Name 0 for 1, 1 for 0 and 0 for 1 again; the second of the four doesn't count, since 41 00 doesn't speak for 20. */
+static struct ledger to_and_fro(void)
+{
+    struct ledger ledger = plain();
+    put_grant(&ledger, "00", "01", nobodys_word);
+    put_grant(&ledger, "00", "20", "41 00");
+    put_grant(&ledger, "01", "00", nobodys_word);
+    put_grant(&ledger, "00", "01", nobodys_word);
+    return ledger;
+}
+
+/* Both sides alike: coalitions 0 and 3 keep all three, 1 breaks the first, and 2 keeps that and breaks the next. */
+static void cases_of_testing(const struct engine *e)
+{
+    const uint32_t expected[4] = {sound(3), broken(1), broken(2), sound(3)};
+    struct ledger l = to_and_fro(), none = plain();
+    all_tested(e, &l, SEE, expected);
+    all_tested(e, &l, CHANGE, expected);
+    for (uint32_t c = 0; c < 4; c++) {
+        expect(e, "K3", tested(e, &none, SEE, c) == sound(0));
+        expect(e, "K3", tested(e, &none, CHANGE, c) == sound(0));
+    }
+}
+
+/* 40 00 is held by all on the change side, 41 01 by all on the see side, 20 by none on either. So on the see side
+ * coalition 1, with name 0 and without name 1, breaks the first grant; the others keep it and break the second. On the
+ * change side 0 and 1, without name 1, break the first; 2 and 3 keep it, and hold 41 01: they break the second. */
+static void cases_of_sides(const struct engine *e)
+{
+    const uint32_t on_see[4] = {broken(2), broken(1), broken(2), broken(2)};
+    const uint32_t on_change[4] = {broken(1), broken(1), broken(2), broken(2)};
+    static const uint32_t change[] = {CHANGE, 2, 3, 256, 65536, 0x80000000, UINT32_MAX};
+    struct ledger l = plain();
+    put_grant(&l, "40 00", "01", nobodys_word);
+    put_grant(&l, "41 01", "20", nobodys_word);
+    all_tested(e, &l, SEE, on_see);
+    for (unsigned i = 0; i < sizeof change / sizeof *change; i++)
+        all_tested(e, &l, change[i], on_change);
+}
+
+/* With q of the same side as p, all keep the first grant on the change side and the second on the see side. On the see
+ * side coalition 1 breaks the first; on the change side 2 and 3, with name 1, break the second. */
+static void cases_of_one_side(const struct engine *e)
+{
+    const uint32_t on_see[4] = {sound(2), broken(1), sound(2), sound(2)};
+    const uint32_t on_change[4] = {sound(2), sound(2), broken(2), broken(2)};
+    struct ledger l = plain();
+    put_grant(&l, "40 00", "40 01", nobodys_word);
+    put_grant(&l, "41 01", "41 20", nobodys_word);
+    all_tested(e, &l, SEE, on_see);
+    all_tested(e, &l, CHANGE, on_change);
+}
+
+/* As many grants as a ledger can have, of which all but the last are kept by everybody. */
+static void case_of_most_grants(const struct engine *e)
+{
+    const uint32_t expected[4] = {sound(GRANTS), broken(GRANTS), sound(GRANTS), sound(GRANTS)};
+    struct ledger l = plain();
+    for (unsigned i = 1; i < GRANTS; i++)
+        put_grant(&l, "00", "00", nobodys_word);
+    put_grant(&l, "00", "01", nobodys_word);
+    all_tested(e, &l, SEE, expected);
+    all_tested(e, &l, CHANGE, expected);
+}
+
+/* Of twelve names the last for the first. */
+static void cases_of_last_name(const struct engine *e)
+{
+    struct ledger l;
+    start_ledger(&l, NAMES);
+    put_grant(&l, "0B", "00", nobodys_word);
+    expect(e, "K3", tested(e, &l, SEE, 0x800) == broken(1));
+    expect(e, "K3", tested(e, &l, CHANGE, 0xFFE) == broken(1));
+    expect(e, "K3", tested(e, &l, SEE, 0x801) == sound(1));
+    expect(e, "K3", tested(e, &l, SEE, 0x7FE) == sound(1));
+}
+
+/* The bits of names that the job doesn't have. */
+static void cases_of_other_bits(const struct engine *e)
+{
+    struct ledger l = to_and_fro();
+    expect(e, "K3", tested(e, &l, SEE, 4) == sound(3));
+    expect(e, "K3", tested(e, &l, SEE, 4 + 1) == broken(1));
+    expect(e, "K3", tested(e, &l, CHANGE, 0x1000 + 2) == broken(2));
+    expect(e, "K3", tested(e, &l, CHANGE, 0x80000000) == sound(3));
+    expect(e, "K3", tested(e, &l, SEE, UINT32_MAX) == sound(3));
+}
+
+/* Only grants that count on the day and under the label are tested. */
+static void cases_of_counting(const struct engine *e)
+{
+    struct ledger l = to_and_fro(), g = granted(own_word);
+    put_days(block_of(&l, 1), 0, 20240131);
+    expect(e, "K3", tested_on(e, &l, "21", 20240131, SEE, 1) == broken(1));
+    expect(e, "K3", tested_on(e, &l, "21", 20240201, SEE, 1) == broken(2));
+    expect(e, "K3", tested_on(e, &l, "21", 20240201, SEE, 2) == broken(1));
+    expect(e, "K3", tested_on(e, &l, "21", 20240201, SEE, 3) == sound(2));
+    expect(e, "K3", tested_on(e, &g, own_word, SOME_DAY, SEE, 1) == broken(1));
+    expect(e, "K3", tested_on(e, &g, "00", SOME_DAY, SEE, 1) == sound(0));
+}
+
+/* Of three that apply the first is given, and so on. */
+static void cases_of_refused_tests(const struct engine *e)
+{
+    struct ledger l = to_and_fro(), short_one = plain();
+    short_one.length = 1;
+    expect(e, "K3", tested_on(e, &short_one, "", 20230229, SEE, 0) == refused(86));
+    expect(e, "K3", tested_on(e, &short_one, "", SOME_DAY, SEE, 0) == refused(10));
+    expect(e, "K3", tested_on(e, &l, "", SOME_DAY, SEE, 0) == refused(41));
+    expect(e, "K3", tested_on(e, &l, "02", SOME_DAY, CHANGE, 1) == refused(42));
+    put_byte(&l, 4, 16, 0xFF); /* behind the grant that coalition 1 breaks */
+    expect(e, "K3", tested_on(e, &l, "21", SOME_DAY, SEE, 1) == refused(14));
+}
+
 static void all_cases(const struct engine *e)
 {
     checks_of_the_ledgers(e);
@@ -622,6 +774,14 @@ static void all_cases(const struct engine *e)
     cases_of_adding_days(e);
     cases_of_dated_extract(e);
     cases_of_dated_calls(e);
+    cases_of_testing(e);
+    cases_of_sides(e);
+    cases_of_one_side(e);
+    case_of_most_grants(e);
+    cases_of_last_name(e);
+    cases_of_other_bits(e);
+    cases_of_counting(e);
+    cases_of_refused_tests(e);
 }
 
 int main(void)
@@ -630,6 +790,6 @@ int main(void)
     all_cases(&library_engine);
     if (failures)
         return 1;
-    puts("worked cases A to L, K12, K1 and K2: same, by the reference and by the library");
+    puts("worked cases A to L, K12, K1, K2 and K3: same, by the reference and by the library");
     return 0;
 }

@@ -39,7 +39,7 @@ PKGCONFIGDIR = $(LIBDIR)/pkgconfig
 BOTH = tests/calls.c tests/build.c reference/reference.c reference/notation.c reference/dates.c
 BOTH_AND_LIB = $(BOTH) tests/library.c $(LIB) $(TRIALS)
 RANDOM = tests/random_calls.c tests/coverage.c
-BENCH = bench/bench.c bench/jobs.c $(RANDOM) $(BOTH_AND_LIB)
+BENCH = bench/bench.c bench/jobs.c $(RANDOM) $(BOTH) tests/library.c build/aligned-rights.a build/aligned-trials.a
 HEADERS = $(wildcard include/*.h reference/*.h tests/*.h bench/*.h)
 
 CRATES = crates.txt $(shell find crates -name '*.rt' -o -name '*.antt')
@@ -102,10 +102,17 @@ build/header: CFLAGS += -DPC_VERSION=$$(PKG_CONFIG_PATH=build pkg-config --modve
 build/worked_cases build/compare: CFLAGS += $(SANITIZE)
 build/stack_use: CFLAGS += -pthread
 
-# functions on cache lines of their own, so that the reference stands alike with and without an earlier archive
+# functions on cache lines of their own, in the archives too: where one happens to stand can matter more than a change
 BENCH_CFLAGS = -O3 -falign-functions=64
+ALIGNED = --set-section-alignment '.text*=64'
 
 build/bench: CFLAGS += $(BENCH_CFLAGS)
+
+build/aligned-rights.a: $(LIB)
+build/aligned-trials.a: $(TRIALS)
+
+build/aligned-rights.a build/aligned-trials.a: | build c-tools
+	objcopy $(ALIGNED) $< $@
 
 BENCH_PROGRAM = build/bench
 
@@ -124,7 +131,8 @@ $(BENCH_PROGRAM): CFLAGS += $(BENCH_CFLAGS) -DBEFORE='"$(REVISION)"' -DBEFORE_VE
 # made outside of the repository: rt would look for crates among its files
 build/before-$(REVISION).a: | build
 	tree=$$(mktemp -d) && git archive $(REVISION) | tar -x -C $$tree && (cd $$tree && rt staticlib rights) && \
-		objcopy $(foreach e,$(ENTRY_POINTS),--redefine-sym $e=before_$e) $$tree/target/staticlib/librights.a $@; \
+		objcopy $(ALIGNED) $(foreach e,$(ENTRY_POINTS),--redefine-sym $e=before_$e) \
+		$$tree/target/staticlib/librights.a $@; \
 		status=$$?; rm -rf $$tree; exit $$status
 endif
 

@@ -371,7 +371,13 @@ fn call(unpacked: &[u8], buffer: &mut [u8]) -> u32
         6 => trials::trials_read_text(eight_bytes(unpacked, 4), p, buffer),
         7 => trials::trials_write_term(eight_bytes(unpacked, 4), p, buffer),
         8 => trials::trials_add_days(day, four_bytes(unpacked, 8)),
-        9 => trials::trials_test_coalition(ledger, label, day, four_bytes(unpacked, 4), four_bytes(unpacked, 8)),
+        9 => trials::trials_test_coalition(
+            ledger,
+            label,
+            day,
+            four_bytes(unpacked, 4),
+            four_bytes(unpacked, 8),
+        ),
         _ => rights::rights_check_derivation(derivation, ledger, label, day),
     }
 }

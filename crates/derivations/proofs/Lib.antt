@@ -1,5 +1,4 @@
 -- Laws that the proofs of this crate's functions cite.
-pub mod Comparing
 pub mod Rules
 pub mod Meeting
 pub mod Checking

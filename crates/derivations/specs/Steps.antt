@@ -3,10 +3,10 @@
 use mathlib.Core.Path.{_≡_}
 use Prim.Native.Nat.{ℕ, _+_, _-_}
 use mathlib.Core.Bool.{Bool, true, not, _&&_, _||_}
-use mathlib.Core.List.{List, _∷_, _++_}
+use mathlib.Core.List.{List}
 use lib.Dec.{eqb, ltb, leb}
 use lib.ListN.{length}
-use Rattle.model.specs.Bytes.{byte, field, zeros, same}
+use Rattle.model.specs.Bytes.{byte, field, zeros}
 use Rattle.model.specs.Readings.{Reading, accepted, refused, require, isAccepted}
 use Rattle.model.specs.Terms.{Term, readTerm}
 use Rattle.model.specs.Grants.{Grant}
@@ -44,10 +44,6 @@ readStep n r step =
 -- refusal 64
 abbrev pub premisesBefore : Rule → List ℕ → ℕ → Bool
 premisesBefore r step k = before (usesOf r .first) (byte 1 step) k && before (usesOf r .second) (byte 2 step) k
-
--- rules 4 and 5, one being the other with p and q exchanged
-abbrev pub joins : ℕ → List ℕ → List ℕ → List ℕ → List ℕ → List ℕ → List ℕ → Bool
-joins code whole first second common one other = same whole (code ∷ first ++ second) && (same one common && same other common)
 
 -- A step whose terms are read, and whose grant is there if its rule uses one: then the rule can be judged.
 pub record Ready (ledger : List ℕ) (n : ℕ) (step : List ℕ) (l : Ledger) : Type 0 where

@@ -2,85 +2,26 @@
 use ledgers::LedgerReading;
 use terms::TermReading;
 ghost use mathlib.Core.Path.{_≡_};
-ghost use mathlib.Core.Bool.{Bool, not, _&&_, _||_};
-ghost use mathlib.Core.List.{_∷_, _++_};
+ghost use mathlib.Core.Bool.{Bool, not, _||_};
 ghost use Prim.Native.Nat.{_+_, _*_, _≤_, _<_};
 ghost use lib.Dec.{eqb, ltb};
 ghost use lib.ListN.{length};
-ghost use Rattle.model.specs.Bytes.{byte, same};
+ghost use Rattle.model.specs.Bytes.{byte};
 ghost use Rattle.model.specs.Coalitions.{member};
 ghost use Rattle.model.specs.Grants.{Grant};
 ghost use Rattle.model.specs.Ledgers.{Ledger};
-ghost use Rattle.model.specs.Derivations.{stepAt, left, right, transitive, conjunction, disjunction, ruleOf, isRule, usesOf, stepForm, before, meets, checkSteps, stepCount, checkDerivation, quote};
+ghost use Rattle.model.specs.Derivations.{stepAt, ruleOf, isRule, usesOf, stepForm, before, checkSteps, stepCount, checkDerivation, quote};
 ghost use Rattle.model.specs.Meanings.{grantBits};
 ghost use Rattle.terms.specs.Readings.{termReading};
 ghost use Rattle.ledgers.specs.Readings.{LedgerOf};
-ghost use Rattle.derivations.specs.Steps.{fieldsForm, pastTerm, fillerForm, readField, readStep, premisesBefore, joins, Ready, meetsAt, checkAt, stepCheck, stepRefusal};
+ghost use Rattle.derivations.specs.Steps.{fieldsForm, pastTerm, fillerForm, readField, readStep, premisesBefore, Ready, meetsAt, checkAt, stepCheck, stepRefusal};
 ghost use Rattle.derivations.specs.Answers.{checkedOf};
-
-// The two are the same, byte for byte.
-fn same(a: &[u8], b: &[u8]) -> bool
-    ensures { λ r. ⌜ r ≡ same (now (a .entry)) (now (b .entry)) ⌝ }
-{
-    if a.len() != b.len() {
-        return false;
-    }
-    let mut i: usize = 0;
-    while i < a.len() {
-        if a[i] != b[i] {
-            return false;
-        }
-        i += 1;
-    }
-    true
-}
-
-// The bytes are a code, then a part.
-fn code_then(s: &[u8], code: u8, a: &[u8]) -> bool
-    ensures { λ r. ⌜ r ≡ same (now (s .entry)) (code ∷ now (a .entry)) ⌝ }
-{
-    if s.len() == 0 {
-        return false;
-    }
-    if s[0] != code {
-        return false;
-    }
-    same(&s[1..], a)
-}
-
-// The bytes are a code, then two parts.
-fn code_then_two(s: &[u8], code: u8, a: &[u8], b: &[u8]) -> bool
-    ensures { λ r. ⌜ r ≡ same (now (s .entry)) (code ∷ now (a .entry) ++ now (b .entry)) ⌝ }
-{
-    if s.len() <= a.len() {
-        return false;
-    }
-    let second = 1 + a.len();
-    let first = code_then(&s[..second], code, a);
-    if !first {
-        return false;
-    }
-    same(&s[second..], b)
-}
 
 // Step k, a part of the derivation: as much of it as there is.
 fn step_at(derivation: &[u8], k: usize) -> &[u8]
     ensures { λ r. ⌜ now r ≡ stepAt (now (derivation .entry)) k ⌝ }
 {
     fields::piece(derivation, 136, k)
-}
-
-// A step's p and its q, parts of the step.
-fn left(step: &[u8]) -> &[u8]
-    ensures { λ r. ⌜ now r ≡ left (now (step .entry)) ⌝ }
-{
-    fields::term_part(step, 4, 8)
-}
-
-fn right(step: &[u8]) -> &[u8]
-    ensures { λ r. ⌜ now r ≡ right (now (step .entry)) ⌝ }
-{
-    fields::term_part(step, 5, 72)
 }
 
 // Which of bytes 1, 2 and 3 a rule uses: the first premise, the second, the grant.
@@ -265,84 +206,6 @@ fn grant_counts(step: &[u8], counted: u64) -> bool
     bit_set(counted, step[3] as usize)
 }
 
-// Rule 2: the step's terms are p and q, the grant's.
-fn has_terms(step: &[u8], p: &[u8], q: &[u8]) -> bool
-    ensures { λ r. ⌜ r ≡ (same (left (now (step .entry))) (now (p .entry)) && same (right (now (step .entry))) (now (q .entry))) ⌝ }
-{
-    let first = same(left(step), p);
-    if !first {
-        return false;
-    }
-    same(right(step), q)
-}
-
-// Rule 3: the first premise is p for m, the second m for q.
-fn transitive(step: &[u8], a: &[u8], b: &[u8]) -> bool
-    ensures { λ r. ⌜ ((l : Ledger) → r ≡ meets l transitive (now (step .entry)) (now (a .entry)) (now (b .entry))) ⌝ }
-{
-    let first = same(left(a), left(step));
-    if !first {
-        return false;
-    }
-    let middle = same(right(a), left(b));
-    if !middle {
-        return false;
-    }
-    same(right(b), right(step))
-}
-
-// Rules 4 and 5: the whole is a code, then the premises' terms on that side in order; on the other side both are the common term.
-fn joins(
-    code: u8,
-    whole: &[u8],
-    first: &[u8],
-    second: &[u8],
-    common: &[u8],
-    one: &[u8],
-    other: &[u8],
-) -> bool
-    ensures { λ r. ⌜ r ≡ joins code (now (whole .entry)) (now (first .entry)) (now (second .entry)) (now (common .entry)) (now (one .entry)) (now (other .entry)) ⌝ }
-{
-    let parts = code_then_two(whole, code, first, second);
-    if !parts {
-        return false;
-    }
-    let first = same(one, common);
-    if !first {
-        return false;
-    }
-    same(other, common)
-}
-
-// Rule 4: q is 30, then the premises' right terms in order; both left terms are p.
-fn conjunction(step: &[u8], a: &[u8], b: &[u8]) -> bool
-    ensures { λ r. ⌜ ((l : Ledger) → r ≡ meets l conjunction (now (step .entry)) (now (a .entry)) (now (b .entry))) ⌝ }
-{
-    let p = left(step);
-    let q = right(step);
-    joins(0x30, q, right(a), right(b), p, left(a), left(b))
-}
-
-// Rule 5: p is 31, then their left terms in order; both right terms are q.
-fn disjunction(step: &[u8], a: &[u8], b: &[u8]) -> bool
-    ensures { λ r. ⌜ ((l : Ledger) → r ≡ meets l disjunction (now (step .entry)) (now (a .entry)) (now (b .entry))) ⌝ }
-{
-    let p = left(step);
-    let q = right(step);
-    joins(0x31, p, left(a), left(b), q, right(a), right(b))
-}
-
-// Rules 6 and 7: p and q are the code before the terms of the premise.
-fn projects(code: u8, step: &[u8], a: &[u8]) -> bool
-    ensures { λ r. ⌜ r ≡ (same (left (now (step .entry))) (code ∷ left (now (a .entry))) && same (right (now (step .entry))) (code ∷ right (now (a .entry)))) ⌝ }
-{
-    let p = code_then(left(step), code, left(a));
-    if !p {
-        return false;
-    }
-    code_then(right(step), code, right(a))
-}
-
 // The step meets its rule, its terms being read and its grant being there: 67 where not.
 fn meets(derivation: &[u8], step: &[u8], ledger: &[u8], n: u64) -> bool
     requires { ⌜ 136 ≤ length (now step) ⌝ }
@@ -353,17 +216,17 @@ fn meets(derivation: &[u8], step: &[u8], ledger: &[u8], n: u64) -> bool
     let grant = step[3] as usize;
     let rule = step[0];
     match rule {
-        1 => questions::acts_statically(n, left(step), right(step)),
-        2 => has_terms(
+        1 => questions::acts_statically(n, rules::left(step), rules::right(step)),
+        2 => rules::has_terms(
             step,
             ledgers::grant_p(ledger, grant),
             ledgers::grant_q(ledger, grant),
         ),
-        3 => transitive(step, a, b),
-        4 => conjunction(step, a, b),
-        5 => disjunction(step, a, b),
-        6 => projects(0x40, step, a),
-        7 => projects(0x41, step, a),
+        3 => rules::transitive(step, a, b),
+        4 => rules::conjunction(step, a, b),
+        5 => rules::disjunction(step, a, b),
+        6 => rules::projects(0x40, step, a),
+        7 => rules::projects(0x41, step, a),
         _ => false,
     }
 }

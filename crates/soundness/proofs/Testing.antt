@@ -1,18 +1,17 @@
 -- How many grants are tested for the coalitions of two rows, one grant after another, and for one coalition alone. Assumes nothing.
 use mathlib.Core.Path.{_≡_, refl, sym, ap, ap₂, _∙_, subst}
-use mathlib.Core.Bool.{Bool, true, false, cond, _&&_, true≢false, false≢true}
+use mathlib.Core.Bool.{Bool, true, false, cond, _&&_, false≢true}
 use mathlib.Core.List.{List, [], _∷_, _++_, append-nil}
-use Prim.Native.Nat.{ℕ, zero, suc, _+_, _-_, _*_, _/_, _^_, _%_, _≤_, _<_, max}
+use Prim.Native.Nat.{ℕ, zero, suc, _+_, _-_, _*_, _/_, _≤_, _<_, max}
 use native.Mathlib.Nat.{le-antisymm}
 use native.Mathlib.Omega.{arith}
-use lib.Dec.{eqb}
 use lib.ListN.{length, length-append}
 use borrow.Author.Tests.{eq-eqb, eqb-true}
 use Rattle.model.specs.Sides.{Side, confidentiality, integrity}
 use Rattle.model.specs.Coalitions.{member, Marks}
 use Rattle.model.specs.Layers.{largest}
 use Rattle.model.specs.Grants.{Grant, marksOf}
-use Rattle.model.specs.Testing.{Tested, test, testOf}
+use Rattle.model.specs.Testing.{Tested, testOf}
 use Rattle.model.proofs.Truth.{and-left, and-right}
 use Rattle.model.proofs.Largest.{largest-least, largest-above, largest-cong}
 use Rattle.model.proofs.Testing.{test-most, test-all, test-next}

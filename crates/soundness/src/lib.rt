@@ -132,7 +132,13 @@ pub fn test_coalition(ledger: &[u8], grants: usize, chosen: u64, side: Side, c: 
     let kept = test_rows(ledger, grants, chosen, c / 256, only(side, c));
     let tested = kept.tested;
     if words::none(kept.rows) {
-        return Tested { sound: false, tested };
+        return Tested {
+            sound: false,
+            tested,
+        };
     }
-    Tested { sound: true, tested }
+    Tested {
+        sound: true,
+        tested,
+    }
 }

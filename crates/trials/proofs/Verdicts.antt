@@ -1,5 +1,5 @@
 -- The number of a coalition's test, and how it is refused. Assumes nothing.
-use mathlib.Core.Path.{_≡_, refl, sym, ap, _∙_}
+use mathlib.Core.Path.{_≡_, refl, ap, _∙_}
 use mathlib.Core.Bool.{true, false}
 use mathlib.Core.List.{List}
 use Prim.Native.Nat.{ℕ, zero, suc, _+_, _≤_}
@@ -7,7 +7,6 @@ use native.Mathlib.Omega.{arith}
 use Rattle.model.specs.Sides.{Side, integrity}
 use Rattle.model.specs.Readings.{accepted, refused}
 use Rattle.model.specs.Dates.{realDate}
-use Rattle.model.specs.Grants.{under}
 use Rattle.model.specs.Ledgers.{readBook}
 use Rattle.model.specs.Testing as model
 use Rattle.model.proofs.Stands.{ledger-stands}

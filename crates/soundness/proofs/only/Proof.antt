@@ -1,8 +1,6 @@
 -- `soundness::only` meets its contract, side by side. Assumes nothing.
 use Prim.Native.Nat.{_/_}
 use Rattle.words.proofs.FourWords.{row-none, rows-of}
-use Rattle.words.specs.FourWords.{sideOf}
-use Rattle.soundness.specs.Testing.{only}
 use borrow.Author.Needs.{needs}
 use Rattle.soundness.proofs.only.Statement.{statement}
 use Rattle.soundness.proofs.only.Tie as tie

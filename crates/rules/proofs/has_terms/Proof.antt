@@ -1,12 +1,12 @@
--- `derivations::has_terms` meets its contract, by what the calls ensure. Assumes nothing.
+-- `rules::has_terms` meets its contract, by what the calls ensure. Assumes nothing.
 use mathlib.Core.Path.{_≡_, sym, _∙_}
 use mathlib.Core.Bool.{Bool}
 use borrow.Author.Tests.{not-true, not-false}
 use Rattle.model.specs.Bytes.{same}
 use Rattle.model.specs.Derivations.{left}
 use borrow.Author.Needs.{needs}
-use Rattle.derivations.proofs.has_terms.Statement.{statement}
-use Rattle.derivations.proofs.has_terms.Tie as tie
+use Rattle.rules.proofs.has_terms.Statement.{statement}
+use Rattle.rules.proofs.has_terms.Tie as tie
 
 p-same : (c : tie.After-same) (s : Bool) → c .same .result ≡ s → let a = c .before .before .before .before .before .args in same (left (a .step .now)) (a .p .now) ≡ s
 p-same c s e = sym (rw (c .before .left .ensures) at (c .same .ensures)) ∙ e

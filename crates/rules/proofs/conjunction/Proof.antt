@@ -1,8 +1,8 @@
--- `derivations::disjunction` meets its contract, by what the calls ensure. Assumes nothing.
+-- `rules::conjunction` meets its contract, by what the calls ensure. Assumes nothing.
 use Rattle.model.specs.Derivations.{meets}
 use borrow.Author.Needs.{needs}
-use Rattle.derivations.proofs.disjunction.Statement.{statement}
-use Rattle.derivations.proofs.disjunction.Tie as tie
+use Rattle.rules.proofs.conjunction.Statement.{statement}
+use Rattle.rules.proofs.conjunction.Tie as tie
 
 left-requires : tie.Need-left-requires
 left-requires c κs = search needs
@@ -10,17 +10,17 @@ left-requires c κs = search needs
 right-requires : tie.Need-right-requires
 right-requires c κs = search needs
 
-left-requires-2 : tie.Need-left-requires-2
-left-requires-2 c κs = search needs
-
-left-requires-3 : tie.Need-left-requires-3
-left-requires-3 c κs = search needs
-
 right-requires-2 : tie.Need-right-requires-2
 right-requires-2 c κs = search needs
 
 right-requires-3 : tie.Need-right-requires-3
 right-requires-3 c κs = search needs
+
+left-requires-2 : tie.Need-left-requires-2
+left-requires-2 c κs = search needs
+
+left-requires-3 : tie.Need-left-requires-3
+left-requires-3 c κs = search needs
 
 joins-requires : tie.Need-joins-requires
 joins-requires c κs = search needs
@@ -31,17 +31,17 @@ returns c = λ l.
     let two = c .before in
     let one = two .before .before in
     let p = one .before .before in
-    rw (p .before .left .ensures, p .right .ensures, one .before .left2 .ensures, one .left3 .ensures, two .before .right2 .ensures, two .right3 .ensures) at (c .joins .ensures)
+    rw (p .before .left .ensures, p .right .ensures, one .before .right2 .ensures, one .right3 .ensures, two .before .left2 .ensures, two .left3 .ensures) at (c .joins .ensures)
 
-pub disjunction-spec : {M : Type 1} → statement M
-disjunction-spec =
+pub conjunction-spec : {M : Type 1} → statement M
+conjunction-spec =
     tie.close
     (tie.spec
     left-requires
     right-requires
-    left-requires-2
-    left-requires-3
     right-requires-2
     right-requires-3
+    left-requires-2
+    left-requires-3
     joins-requires
     returns)

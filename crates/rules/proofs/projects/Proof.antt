@@ -1,4 +1,4 @@
--- `derivations::projects` meets its contract, by what the calls ensure. Assumes nothing.
+-- `rules::projects` meets its contract, by what the calls ensure. Assumes nothing.
 use mathlib.Core.Path.{_≡_, sym, _∙_}
 use mathlib.Core.Bool.{Bool}
 use mathlib.Core.List.{_∷_}
@@ -6,8 +6,8 @@ use borrow.Author.Tests.{not-true, not-false}
 use Rattle.model.specs.Bytes.{same}
 use Rattle.model.specs.Derivations.{left}
 use borrow.Author.Needs.{needs}
-use Rattle.derivations.proofs.projects.Statement.{statement}
-use Rattle.derivations.proofs.projects.Tie as tie
+use Rattle.rules.proofs.projects.Statement.{statement}
+use Rattle.rules.proofs.projects.Tie as tie
 
 p-same : (c : tie.After-code-then) (s : Bool) → c .code-then .result ≡ s → let a = c .before .before .before .before .before .args in same (left (a .step .now)) (a .code ∷ left (a .a .now)) ≡ s
 p-same c s e = sym (rw (c .before .before .left .ensures, c .before .left2 .ensures) at (c .code-then .ensures)) ∙ e

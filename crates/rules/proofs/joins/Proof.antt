@@ -1,12 +1,12 @@
--- `derivations::joins` meets its contract, by what the calls ensure. Assumes nothing.
+-- `rules::joins` meets its contract, by what the calls ensure. Assumes nothing.
 use mathlib.Core.Path.{_≡_, sym, _∙_}
 use mathlib.Core.Bool.{Bool, and-false}
 use mathlib.Core.List.{_∷_, _++_}
 use borrow.Author.Tests.{not-true, not-false}
 use Rattle.model.specs.Bytes.{same}
 use borrow.Author.Needs.{needs}
-use Rattle.derivations.proofs.joins.Statement.{statement}
-use Rattle.derivations.proofs.joins.Tie as tie
+use Rattle.rules.proofs.joins.Statement.{statement}
+use Rattle.rules.proofs.joins.Tie as tie
 
 parts : (c : tie.After-code-then-two) (s : Bool) → c .code-then-two .result ≡ s → let a = c .before .before .before .before .before .before .before .args in same (a .whole .now) (a .code ∷ a .first .now ++ a .second .now) ≡ s
 parts c s e = sym (c .code-then-two .ensures) ∙ e

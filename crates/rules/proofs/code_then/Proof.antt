@@ -1,11 +1,11 @@
--- `derivations::code_then` meets its contract, by the test on the code and what `same` ensures of the rest. Assumes nothing.
+-- `rules::code_then` meets its contract, by the test on the code and what `same` ensures of the rest. Assumes nothing.
 use native.Mathlib.Omega.{arith}
 use mathlib.Core.Path.{sym}
 use borrow.Author.Tests.{eq-eqb, ne-eqb}
-use Rattle.derivations.proofs.Comparing.{code-none, code-first}
+use Rattle.rules.proofs.Comparing.{code-none, code-first}
 use borrow.Author.Needs.{needs}
-use Rattle.derivations.proofs.code_then.Statement.{statement}
-use Rattle.derivations.proofs.code_then.Tie as tie
+use Rattle.rules.proofs.code_then.Statement.{statement}
+use Rattle.rules.proofs.code_then.Tie as tie
 
 returns : tie.Need-returns
 returns c = let a = c .before .before .before .args in sym (code-none (a .s .now) (a .a .now) (a .code) (omega arith))

@@ -1,12 +1,12 @@
--- `derivations::transitive` meets its contract, by what the calls ensure. Assumes nothing.
+-- `rules::transitive` meets its contract, by what the calls ensure. Assumes nothing.
 use mathlib.Core.Path.{_≡_, sym, _∙_}
 use mathlib.Core.Bool.{Bool, and-false}
 use borrow.Author.Tests.{not-true, not-false}
 use Rattle.model.specs.Bytes.{same}
 use Rattle.model.specs.Derivations.{left, right, meets}
 use borrow.Author.Needs.{needs}
-use Rattle.derivations.proofs.transitive.Statement.{statement}
-use Rattle.derivations.proofs.transitive.Tie as tie
+use Rattle.rules.proofs.transitive.Statement.{statement}
+use Rattle.rules.proofs.transitive.Tie as tie
 
 first : (c : tie.After-same) (s : Bool) → c .same .result ≡ s → let a = c .before .before .before .before .before .before .args in same (left (a .a .now)) (left (a .step .now)) ≡ s
 first c s e = sym (rw (c .before .before .left .ensures, c .before .left2 .ensures) at (c .same .ensures)) ∙ e

@@ -1,4 +1,4 @@
--- `derivations::same` meets its contract. The loop's invariant: the bytes from place i on are the same exactly if all are.
+-- `rules::same` meets its contract. The loop's invariant: the bytes from place i on are the same exactly if all are.
 -- Assumes nothing.
 use Prim.Native.Nat.{_+_, _-_, _≤_}
 use native.Mathlib.Omega.{arith}
@@ -8,9 +8,9 @@ use lib.Dec.{eqb}
 use lib.ListN.{length, drop, getD}
 use borrow.Author.Tests.{eq-eqb, ne-eqb}
 use Rattle.model.specs.Bytes.{same}
-use Rattle.derivations.proofs.Comparing.{same-lengths, same-more, same-end}
-use Rattle.derivations.proofs.same.Statement.{statement}
-use Rattle.derivations.proofs.same.Tie as tie
+use Rattle.rules.proofs.Comparing.{same-lengths, same-more, same-end}
+use Rattle.rules.proofs.same.Statement.{statement}
+use Rattle.rules.proofs.same.Tie as tie
 
 abbrev Inv-loop : tie.InvT-loop
 Inv-loop a b i₀ i = (i ≤ length a) × (same (drop i a) (drop i b) ≡ same a b)

@@ -1,4 +1,4 @@
--- `derivations::code_then_two` meets its contract: the front is a code and the first part, the rest the second. Assumes nothing.
+-- `rules::code_then_two` meets its contract: the front is a code and the first part, the rest the second. Assumes nothing.
 use Prim.Native.Nat.{_+_}
 use native.Mathlib.Omega.{arith}
 use mathlib.Core.Path.{sym, _∙_}
@@ -6,10 +6,10 @@ use mathlib.Core.List.{_++_}
 use lib.ListN.{length, length-append}
 use lib.Seq.{length-take-le}
 use borrow.Author.Tests.{not-true, not-false}
-use Rattle.derivations.proofs.Comparing.{code-none, code-parts}
+use Rattle.rules.proofs.Comparing.{code-none, code-parts}
 use borrow.Author.Needs.{needs}
-use Rattle.derivations.proofs.code_then_two.Statement.{statement}
-use Rattle.derivations.proofs.code_then_two.Tie as tie
+use Rattle.rules.proofs.code_then_two.Statement.{statement}
+use Rattle.rules.proofs.code_then_two.Tie as tie
 
 returns : tie.Need-returns
 returns c = let a = c .before .before .before .before .args in sym (code-none (a .s .now) (a .a .now ++ a .b .now) (a .code) (rw length-append (omega arith)))

@@ -432,7 +432,7 @@ fn agrees(unpacked: &[u8], space: &mut [u8]) -> bool {
         }
         return quote_agrees(unpacked);
     }
-    if 8 < operation {
+    if 9 < operation {
         return false;
     }
     if expected.len() != four_bytes(unpacked, 44) as usize {

@@ -16,7 +16,7 @@ use Rattle.model.specs.Extracts.{extract}
 use Rattle.model.specs.Derivations.{checkDerivation}
 use Rattle.model.specs.Notation.{textCodes, termText}
 use Rattle.demands.specs.Cases.{code1, code2}
-use Rattle.requests.specs.Testing.{broken, sound}
+use Rattle.requests.specs.Testing.{brokenAfter, soundAfter}
 
 -- K1: a written notation
 pub record NotationCases : Type 0 where
@@ -141,8 +141,8 @@ unfoldable pub grantBlockOf : List ℕ → List ℕ → List ℕ → List ℕ
 grantBlockOf p q label = withCheck (0x02 ∷ length p ∷ length q ∷ length label ∷ replicate 12 0 ++ fieldOf p ++ fieldOf q ++ fieldOf label ++ replicate 302 0)
 
 -- of two names and these grants, tested under 21
-abbrev pub testedOf : List (List ℕ) → Side → ℕ → Reading Tested
-testedOf grants s c = andThen (readBook (ledgerOf 2 grants) (0x21 ∷ []) 20240131) (λ b. accepted (testUnder (b .ledger) (b .asked) s c))
+abbrev pub testWith : List (List ℕ) → Side → ℕ → Reading Tested
+testWith grants s c = andThen (readBook (ledgerOf 2 grants) (0x21 ∷ []) 20240131) (λ b. accepted (testUnder (b .ledger) (b .asked) s c))
 
 -- 00 for 01, 00 for 20, 01 for 00, and 00 for 01 again; the label of the second is 41 00, so that it is not spoken, those of the others 41 20
 unfoldable pub fourGrants : List (List ℕ)
@@ -155,19 +155,19 @@ twoGrants q = grantBlockOf (0x40 ∷ 0x00 ∷ []) (0x01 ∷ []) (0x41 ∷ 0x20 �
 
 pub record TestCases : Type 0 where
   -- on both sides alike
-  pub four-0 : (s : Side) → testedOf fourGrants s 0 ≡ accepted (sound 3)
-  pub four-1 : (s : Side) → testedOf fourGrants s 1 ≡ accepted (broken 1)
-  pub four-2 : (s : Side) → testedOf fourGrants s 2 ≡ accepted (broken 2)
-  pub four-3 : (s : Side) → testedOf fourGrants s 3 ≡ accepted (sound 3)
-  pub no-grants : (s : Side) → testedOf [] s 0 ≡ accepted (sound 0)
+  pub four-0 : (s : Side) → testWith fourGrants s 0 ≡ accepted (soundAfter 3)
+  pub four-1 : (s : Side) → testWith fourGrants s 1 ≡ accepted (brokenAfter 1)
+  pub four-2 : (s : Side) → testWith fourGrants s 2 ≡ accepted (brokenAfter 2)
+  pub four-3 : (s : Side) → testWith fourGrants s 3 ≡ accepted (soundAfter 3)
+  pub no-grants : (s : Side) → testWith [] s 0 ≡ accepted (soundAfter 0)
   -- on the see side 41 01 is held by all, and 20 by none
-  pub see-0 : testedOf (twoGrants (0x20 ∷ [])) confidentiality 0 ≡ accepted (broken 2)
-  pub see-1 : testedOf (twoGrants (0x20 ∷ [])) confidentiality 1 ≡ accepted (broken 1)
+  pub see-0 : testWith (twoGrants (0x20 ∷ [])) confidentiality 0 ≡ accepted (brokenAfter 2)
+  pub see-1 : testWith (twoGrants (0x20 ∷ [])) confidentiality 1 ≡ accepted (brokenAfter 1)
   -- there 41 20 is held by all
-  pub see-0-kept : testedOf (twoGrants (0x41 ∷ 0x20 ∷ [])) confidentiality 0 ≡ accepted (sound 2)
-  pub see-1-kept : testedOf (twoGrants (0x41 ∷ 0x20 ∷ [])) confidentiality 1 ≡ accepted (broken 1)
+  pub see-0-kept : testWith (twoGrants (0x41 ∷ 0x20 ∷ [])) confidentiality 0 ≡ accepted (soundAfter 2)
+  pub see-1-kept : testWith (twoGrants (0x41 ∷ 0x20 ∷ [])) confidentiality 1 ≡ accepted (brokenAfter 1)
   -- on the change side 40 00 is held by all, and 01 by 2 and 3
-  pub change-0 : testedOf (twoGrants (0x20 ∷ [])) integrity 0 ≡ accepted (broken 1)
-  pub change-1 : testedOf (twoGrants (0x20 ∷ [])) integrity 1 ≡ accepted (broken 1)
-  pub change-2 : testedOf (twoGrants (0x20 ∷ [])) integrity 2 ≡ accepted (broken 2)
-  pub change-3 : testedOf (twoGrants (0x20 ∷ [])) integrity 3 ≡ accepted (broken 2)
+  pub change-0 : testWith (twoGrants (0x20 ∷ [])) integrity 0 ≡ accepted (brokenAfter 1)
+  pub change-1 : testWith (twoGrants (0x20 ∷ [])) integrity 1 ≡ accepted (brokenAfter 1)
+  pub change-2 : testWith (twoGrants (0x20 ∷ [])) integrity 2 ≡ accepted (brokenAfter 2)
+  pub change-3 : testWith (twoGrants (0x20 ∷ [])) integrity 3 ≡ accepted (brokenAfter 2)

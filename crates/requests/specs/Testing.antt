@@ -12,12 +12,12 @@ use Rattle.model.specs.Testing.{Tested, testUnder}
 use Rattle.model.specs.Meanings.{Keeps, BreaksFirst}
 use Rattle.demands.specs.Extracts.{NoneCounts}
 
--- so many grants were tested, and the last was broken, or none was
-abbrev pub broken : ℕ → Tested
-broken t = record { is-sound = false; tested = t }
+-- so many grants were tested: the last was broken, or none was
+abbrev pub brokenAfter : ℕ → Tested
+brokenAfter t = record { is-sound = false; tested = t }
 
-abbrev pub sound : ℕ → Tested
-sound t = record { is-sound = true; tested = t }
+abbrev pub soundAfter : ℕ → Tested
+soundAfter t = record { is-sound = true; tested = t }
 
 -- The verdict is the one that questions and extracts go by.
 abbrev pub VerdictIsSoundness : Type 0
@@ -26,8 +26,8 @@ VerdictIsSoundness = (l : Ledger) (u : Under) (s : Side) (c : ℕ) → testUnder
 -- The coalition is broken, with number t, exactly if counting grant t, counted from 1, is the first that it breaks on the side; it is sound exactly if it
 -- keeps all of them, and t is how many there are.
 pub record EndsAtTheBrokenGrant : Type 0 where
-  pub at-the-first : (l : Ledger) (u : Under) (s : Side) (c t : ℕ) → testUnder l u s c ≡ broken t ↔ BreaksFirst (counting u (l .grants)) s c t
-  pub after-all : (l : Ledger) (u : Under) (s : Side) (c t : ℕ) → testUnder l u s c ≡ sound t ↔ (Keeps (counting u (l .grants)) s c × (t ≡ length (counting u (l .grants))))
+  pub at-the-first : (l : Ledger) (u : Under) (s : Side) (c t : ℕ) → testUnder l u s c ≡ brokenAfter t ↔ BreaksFirst (counting u (l .grants)) s c t
+  pub after-all : (l : Ledger) (u : Under) (s : Side) (c t : ℕ) → testUnder l u s c ≡ soundAfter t ↔ (Keeps (counting u (l .grants)) s c × (t ≡ length (counting u (l .grants))))
 
 -- Leaving out grants that don't count changes no test: what is counted are not places in the ledger.
 abbrev pub UncountedChangeNoTest : Type 0

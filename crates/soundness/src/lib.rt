@@ -1,5 +1,5 @@
-// Which coalitions keep the grants whose bits are set, the sound ones, where these are the grants that count (document 01, "Grants that count"), and how many
-// of these grants are tested (document 02, K3).
+// Which coalitions keep the grants whose bits are set: the sound ones, where these are the grants that count (document 01, "Grants that count"). How many of
+// these grants a test takes (document 02, K3).
 use words::Row;
 use words::Rows;
 use words::Side;
@@ -33,9 +33,9 @@ pub fn broken(ledger: &[u8], k: usize, g: u64, of: Rows) -> Rows
 }
 
 // Those of two rows that keep the grants they were tested against, and how many these were. The number stands first, as in `words::Held`.
-pub struct Kept {
-    pub tested: usize,
-    pub rows: Rows,
+struct Kept {
+    tested: usize,
+    rows: Rows,
 }
 
 // Tests the coalitions of two rows against the grants whose bits are set. Each is dropped at the first that it breaks, and the test ends where none is left.

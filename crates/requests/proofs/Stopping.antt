@@ -1,7 +1,6 @@
 -- The test of a coalition on a side. Assumes nothing.
 use mathlib.Core.Path.{ap}
 use mathlib.Core.List.{List}
-use native.Mathlib.Nat.{zero-add}
 use Rattle.model.specs.Grants.{Grant, countsUnder, counting}
 use Rattle.model.specs.Questions.{soundUnder}
 use Rattle.model.specs.Testing.{testOf, testUnder}
@@ -22,4 +21,4 @@ ends-at-the-broken-grant = record {
 
 pub uncounted-change-no-test : UncountedChangeNoTest
 unfolding testUnder
-uncounted-change-no-test l u out h s c = ap (λ (gs : List Grant). testOf gs s c) (leave-chosen (countsUnder u) out 0 (l .grants) (λ k o. h k (rw zero-add at o)))
+uncounted-change-no-test l u out h s c = ap (λ (gs : List Grant). testOf gs s c) (leave-chosen (countsUnder u) out (l .grants) h)

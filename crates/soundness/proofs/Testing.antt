@@ -9,7 +9,6 @@ use lib.ListN.{length, length-append}
 use borrow.Author.Tests.{eq-eqb, eqb-true}
 use Rattle.model.specs.Sides.{Side, confidentiality, integrity}
 use Rattle.model.specs.Coalitions.{member, Marks}
-use Rattle.model.specs.Layers.{largest}
 use Rattle.model.specs.Grants.{Grant, marksOf}
 use Rattle.model.specs.Testing.{Tested, testOf}
 use Rattle.model.proofs.Truth.{and-left, and-right}
@@ -21,7 +20,7 @@ use Rattle.words.proofs.FourWords.{MarkedIn, rows-empty, rows-some}
 use Rattle.counting.specs.Counted.{grantIn}
 use Rattle.soundness.specs.declared.Kept.{Kept}
 use Rattle.soundness.specs.Keeping.{breaks, chosenIn, soundIn}
-use Rattle.soundness.specs.Testing.{testIn, only, testedFor, mostTested, TestedTo}
+use Rattle.soundness.specs.Testing.{testIn, only, testedFor, mostOn, mostTested, TestedTo}
 use Rattle.soundness.proofs.Steps.{chosen-next, test-says, broken-stays, kept-rows, keepFirst, keep-none, keep-empty, keep-more, keep-skip}
 
 -- ---- the largest of a row
@@ -29,8 +28,10 @@ use Rattle.soundness.proofs.Steps.{chosen-next, test-says, broken-stays
 module _ (gs : List Grant) (f : Marks) (g : ℕ) where
   most-least : (t : ℕ) → ((s : Side) (c : ℕ) → testedFor gs f s c ≤ t) → mostTested gs f g ≤ t
   unfolding mostTested
-  most-least t h =
-      omega (arith, largest-least (λ j. testedFor gs f confidentiality (256 * g + j)) 256 t (λ j _. h confidentiality (256 * g + j)), largest-least (λ j. testedFor gs f integrity (256 * g + j)) 256 t (λ j _. h integrity (256 * g + j)))
+  most-least t h = omega (arith, on confidentiality, on integrity)
+    where
+      on : (s : Side) → mostOn gs f g s ≤ t
+      on s = largest-least (λ j. testedFor gs f s (256 * g + j)) 256 t (λ j _. h s (256 * g + j))
 
   most-above : (s : Side) (c : ℕ) → 256 * g ≤ c → c < 256 * g + 256 → testedFor gs f s c ≤ mostTested gs f g
   unfolding mostTested
@@ -39,10 +40,10 @@ module _ (gs : List Grant) (f : Marks) (g : ℕ) where
       there : 256 * g + (c - 256 * g) ≡ c
       there = omega arith
 
-      on : (s : Side) → testedFor gs f s c ≤ largest (λ j. testedFor gs f s (256 * g + j)) 256
-      on s = subst (λ (d : ℕ). testedFor gs f s d ≤ largest (λ j. testedFor gs f s (256 * g + j)) 256) there (largest-above (λ j. testedFor gs f s (256 * g + j)) 256 (c - 256 * g) (omega arith))
+      on : (s : Side) → testedFor gs f s c ≤ mostOn gs f g s
+      on s = subst (λ (d : ℕ). testedFor gs f s d ≤ mostOn gs f g s) there (largest-above (λ j. testedFor gs f s (256 * g + j)) 256 (c - 256 * g) (omega arith))
 
-      by : (s : Side) → testedFor gs f s c ≤ max (largest (λ j. testedFor gs f confidentiality (256 * g + j)) 256) (largest (λ j. testedFor gs f integrity (256 * g + j)) 256)
+      by : (s : Side) → testedFor gs f s c ≤ max (mostOn gs f g confidentiality) (mostOn gs f g integrity)
       by confidentiality = omega (arith, on confidentiality)
       by integrity = omega (arith, on integrity)
 
@@ -54,7 +55,7 @@ most-cong : (gs hs : List Grant) (f : Marks) (g : ℕ) → ((s : Side) (c : ℕ)
 unfolding mostTested
 most-cong gs hs f g e = ap₂ max (on confidentiality) (on integrity)
   where
-    on : (s : Side) → largest (λ j. testedFor gs f s (256 * g + j)) 256 ≡ largest (λ j. testedFor hs f s (256 * g + j)) 256
+    on : (s : Side) → mostOn gs f g s ≡ mostOn hs f g s
     on s = largest-cong (λ j. testedFor gs f s (256 * g + j)) (λ j. testedFor hs f s (256 * g + j)) 256 (λ j l. e s (256 * g + j) (omega arith) (omega arith))
 
 -- no more than there are

@@ -33,9 +33,12 @@ only integrity c integrity d = eqb d c
 abbrev pub testedFor : List Grant → Marks → Side → ℕ → ℕ
 testedFor gs f s c = cond (f s c) (testOf gs s c .tested) 0
 
--- for those of row g together, the largest of theirs
+-- for those of row g together, the largest of theirs: on a side, and on both
+abbrev pub mostOn : List Grant → Marks → ℕ → Side → ℕ
+mostOn gs f g s = largest (λ j. testedFor gs f s (256 * g + j)) 256
+
 unfoldable pub mostTested : List Grant → Marks → ℕ → ℕ
-mostTested gs f g = max (largest (λ j. testedFor gs f confidentiality (256 * g + j)) 256) (largest (λ j. testedFor gs f integrity (256 * g + j)) 256)
+mostTested gs f g = max (mostOn gs f g confidentiality) (mostOn gs f g integrity)
 
 -- Row g of those of f that keep each grant whose bit is set, and how many grants were tested.
 pub record TestedTo (ledger : List ℕ) (grants bits : ℕ) (f : Marks) (g : ℕ) (kept : Kept) : Type 0 where

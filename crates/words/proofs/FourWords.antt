@@ -121,15 +121,6 @@ pub record MarkedIn (f : Marks) (g : ℕ) : Type 0 where
   pub high : coalition < 256 * g + 256
   pub marked : f side coalition ≡ true
 
-neither : (f : Marks) (s : Side) (c : ℕ) → (f confidentiality c || f integrity c) ≡ false → f s c ≡ false
-neither f s c = by s (f confidentiality c) (f integrity c) refl refl
-  where
-    by : (s : Side) (a b : Bool) → f confidentiality c ≡ a → f integrity c ≡ b → (a || b) ≡ false → f s c ≡ false
-    by confidentiality false b p q z = p
-    by confidentiality true b p q z = absurd (true≢false z)
-    by integrity false b p q z = q ∙ z
-    by integrity true b p q z = absurd (true≢false z)
-
 module _ (g : ℕ) where
   pub rows-each : (op : ℕ → ℕ → ℕ) (k : Marks) (x y : Rows) → ((s : Side) → RowAt (k s) g (eachWord op (rowOn x s) (rowOn y s))) → RowsAt k g (eachRow op x y)
   rows-each op k x y e = record { row = λ s. subst (RowAt (k s) g) (sym (each-on op x y s)) (e s) }
@@ -147,8 +138,14 @@ module _ (g : ℕ) where
   -- rows that are empty on both sides have no coalition
   pub rows-empty : (f : Marks) (x : Rows) → RowsAt f g x → emptyRows x ≡ true → (s : Side) (c : ℕ) → 256 * g ≤ c → c < 256 * g + 256 → f s c ≡ false
   rows-empty f x r e s c low high =
-      neither f s c
+      by s (f confidentiality c) (f integrity c) refl refl
       (row-empty (λ c. f confidentiality c || f integrity c) g _ (row-either g (f confidentiality) (f integrity) (x .see) (x .change) (r .row confidentiality) (r .row integrity)) e c low high)
+    where
+      by : (s : Side) (a b : Bool) → f confidentiality c ≡ a → f integrity c ≡ b → (a || b) ≡ false → f s c ≡ false
+      by confidentiality false b p q z = p
+      by confidentiality true b p q z = absurd (true≢false z)
+      by integrity false b p q z = q ∙ z
+      by integrity true b p q z = absurd (true≢false z)
 
   -- and rows that are not have one
   pub rows-some : (f : Marks) (x : Rows) → RowsAt f g x → emptyRows x ≡ false → MarkedIn f g

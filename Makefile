@@ -8,6 +8,8 @@
 #                    the example against build/ and against an installed library, as pkg-config finds them
 # make bench         how fast the library is beside the reference: make bench BEFORE=HEAD~9 also beside the archive
 #                    of that revision, which it builds first
+# make instructions  how many instructions each row of the benchmark takes, whatever else the machine does; with BEFORE
+#                    also by that archive
 # make fuzz          a fuzzer for a while: make fuzz SECONDS=60
 # make stack-use     how much stack a call takes
 # make cases-data    the data file of the test program `cases`, made again
@@ -196,6 +198,10 @@ stack-use: build/stack_use
 bench: $(BENCH_PROGRAM)
 	$(BENCH_PROGRAM)
 
+instructions: $(BENCH_PROGRAM)
+	@scripts/need valgrind
+	@scripts/instructions $(BENCH_PROGRAM)
+
 fuzz: build/fuzz
 	mkdir -p build/corpus
 	build/fuzz -max_total_time=$(SECONDS) -max_len=1024 -use_value_profile=1 -artifact_prefix=build/ build/corpus
@@ -225,4 +231,4 @@ clean:
 	rm -rf build
 
 .PHONY: library install uninstall c-tools fuzz-tools demo test check-c check-pkg-config check-install stack-use bench \
-	fuzz cases-data check-cases-data reading-lines lines clean
+	instructions fuzz cases-data check-cases-data reading-lines lines clean

@@ -4,11 +4,15 @@
  *
  * Each call is measured alone, made again and again, and then with 31 others on other jobs, all made in turn: of one
  * job alone the processor learns which way the branches go.
+ *
+ *     bench                 the times
+ *     bench instructions    for scripts/instructions, which has `once` counted: each row by the library and the archive
  */
 #include "jobs.h"
 
 #include <stdio.h>
 #include <stdlib.h>
+#include <string.h>
 #include <time.h>
 
 enum {
@@ -307,13 +311,43 @@ static void print_dates(void)
     print_rows(date_rows, sizeof date_rows / sizeof *date_rows, (struct job){1, 0, 0});
 }
 
-int main(void)
+static const struct job sizes[] = {{4, 8, 5}, {8, 20, 9}, {NAMES, GRANTS, 63}};
+
+enum { SIZES = sizeof sizes / sizeof *sizes };
+
+/* ---- Instructions ---- */
+
+/* The calls of a row, one after another; a function by this name, not inlined and not specialised. */
+__attribute__((noipa)) static void once(const struct engine *engine)
 {
+    for (unsigned i = 0; i < JOBS; i++)
+        perform(engine, &requests[i]);
+}
+
+/* Each row once, by the library and by the archive of before if it has the call; prints how many of these it has. */
+static void run_rows_once(struct job job)
+{
+    for (unsigned i = 0; i < sizeof rows / sizeof *rows; i++) {
+        make_calls(rows[i].make, job);
+        unsigned engine_count = engines_for(&calls[0]);
+        once(engines[LIBRARY]);
+        for (unsigned e = EARLIER; e < engine_count; e++)
+            once(engines[e]);
+        printf("%u %u names: %s\n", engine_count - EARLIER, job.n, rows[i].what);
+    }
+}
+
+int main(int argc, char **argv)
+{
+    if (argc > 1 && strcmp(argv[1], "instructions") == 0) {
+        for (unsigned i = 0; i < SIZES; i++)
+            run_rows_once(sizes[i]);
+        return 0;
+    }
     for (unsigned e = EARLIER; e < ENGINES; e++)
         printf("before: the archive of revision %s\n", engines[e]->name);
-    print_job((struct job){4, 8, 5});
-    print_job((struct job){8, 20, 9});
-    print_job((struct job){NAMES, GRANTS, 63});
+    for (unsigned i = 0; i < SIZES; i++)
+        print_job(sizes[i]);
     print_growth_with_grants();
     print_growth_with_names();
     print_notation();

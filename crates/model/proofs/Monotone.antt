@@ -6,13 +6,13 @@ use Prim.Native.Nat.{ℕ, zero, suc, _-_, _/_, _%_, _^_, _≤_, _<_}
 use native.Mathlib.Nat.{pow-suc}
 use native.Mathlib.Decide.{ℕ-discrete, decLt}
 use native.Mathlib.Omega.{arith}
-use mathlib.Core.Bool.{Bool, true, false, not, _&&_}
+use mathlib.Core.Bool.{Bool, true, false, cond, not, _&&_, true≢false}
 use lib.Dec.{eqb}
 use lib.Pow.{pow-mono}
-use borrow.Author.Tests.{eqb-true, eqb-false, ne-eqb, not-true}
+use borrow.Author.Tests.{eqb-true, eqb-false, ne-eqb, not-true, leb-true, le-leb}
 use Rattle.model.specs.Sides.{Side, confidentiality, integrity}
 use Rattle.model.specs.Coalitions.{member, implies, every, Lowest, nowhere, at, lowest, properSubset}
-use Rattle.model.specs.Terms.{Term, name, top, bottom, conj, disj, project, held}
+use Rattle.model.specs.Terms.{Term, name, top, bottom, conj, disj, project, quorum, Terms, nil, cons, held, heldCount}
 use Rattle.model.specs.ShortForms.{minimal}
 use Rattle.model.proofs.Truth.{clash, true-of, false-of, and-intro, and-left, and-right, or-left, or-right, or-elim, bool-ext, implies-elim, implies-intro}
 use Rattle.model.proofs.Search.{Says, every-elim, every-intro, lowest-says}
@@ -68,23 +68,38 @@ less-subset n i c e j l m = elim (ℕ-discrete j i) [
 abbrev pub Monotone : ℕ → (ℕ → Bool) → Type 0
 Monotone n f = (b c : ℕ) → b < 2 ^ n → Subset n b c → f b ≡ true → f c ≡ true
 
+-- one part more that is held counts
+counts-more : {x y : ℕ} (a b : Bool) → (a ≡ true → b ≡ true) → x ≤ y → cond a (suc x) x ≤ cond b (suc y) y
+counts-more true true h l = omega arith
+counts-more true false h l = absurd (true≢false (sym (h refl)))
+counts-more false true h l = omega arith
+counts-more false false h l = l
+
 -- A term is held by every coalition that has the members of one that holds it. Of names from n up a coalition of n names has none.
-pub held-monotone : (n : ℕ) (t : Term) (s : Side) → Monotone n (held t s)
-unfolding held
-held-monotone n (name i) s b c l h e = elim (decLt i n) [
-  | yes m ↦ h i m e
-  | no m ↦ (let few : n ≤ i = omega arith in absurd (clash e (member-past i b (omega (arith, pow-mono few)))))
-]
-held-monotone n top s b c l h e = e
-held-monotone n bottom s b c l h e = e
-held-monotone n (conj p q) s b c l h e =
-    and-intro (held-monotone n p s b c l h (and-left (held p s b) (held q s b) e)) (held-monotone n q s b c l h (and-right (held p s b) (held q s b) e))
-held-monotone n (disj p q) s b c l h e =
-    or-elim (held p s b) (held q s b) (λ e. or-left (held q s c) (held-monotone n p s b c l h e)) (λ e. or-right (held p s c) (held-monotone n q s b c l h e)) e
-held-monotone n (project confidentiality p) confidentiality b c l h e = held-monotone n p confidentiality b c l h e
-held-monotone n (project confidentiality p) integrity b c l h e = e
-held-monotone n (project integrity p) confidentiality b c l h e = e
-held-monotone n (project integrity p) integrity b c l h e = held-monotone n p integrity b c l h e
+mutual
+  unfolding held
+
+  pub held-monotone : (n : ℕ) (t : Term) (s : Side) → Monotone n (held t s)
+  held-monotone n (name i) s b c l h e = elim (decLt i n) [
+    | yes m ↦ h i m e
+    | no m ↦ (let few : n ≤ i = omega arith in absurd (clash e (member-past i b (omega (arith, pow-mono few)))))
+  ]
+  held-monotone n top s b c l h e = e
+  held-monotone n bottom s b c l h e = e
+  held-monotone n (conj p q) s b c l h e =
+      and-intro (held-monotone n p s b c l h (and-left (held p s b) (held q s b) e)) (held-monotone n q s b c l h (and-right (held p s b) (held q s b) e))
+  held-monotone n (disj p q) s b c l h e =
+      or-elim (held p s b) (held q s b) (λ e. or-left (held q s c) (held-monotone n p s b c l h e)) (λ e. or-right (held p s c) (held-monotone n q s b c l h e)) e
+  held-monotone n (project confidentiality p) confidentiality b c l h e = held-monotone n p confidentiality b c l h e
+  held-monotone n (project confidentiality p) integrity b c l h e = e
+  held-monotone n (project integrity p) confidentiality b c l h e = e
+  held-monotone n (project integrity p) integrity b c l h e = held-monotone n p integrity b c l h e
+  held-monotone n (quorum k ts) s b c l h e = le-leb k (heldCount ts s c) (omega (arith, leb-true k (heldCount ts s b) e, count-monotone n ts s b c l h))
+
+  -- and it holds at least as many of the parts of a quorum
+  pub count-monotone : (n : ℕ) (ts : Terms) (s : Side) (b c : ℕ) → b < 2 ^ n → Subset n b c → heldCount ts s b ≤ heldCount ts s c
+  count-monotone n nil s b c l h = omega arith
+  count-monotone n (cons t ts) s b c l h = counts-more (held t s b) (held t s c) (λ e. held-monotone n t s b c l h e) (count-monotone n ts s b c l h)
 
 -- ---- proper subsets
 

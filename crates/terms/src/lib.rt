@@ -2,7 +2,7 @@
 ghost use mathlib.Core.Path.{_≡_};
 ghost use mathlib.Core.Bool.{true};
 ghost use Prim.Native.Nat.{_+_};
-ghost use Rattle.model.specs.Terms.{codeOf, readTerm};
+ghost use Rattle.model.specs.Terms.{quorate, codeOf, readTerm};
 ghost use Rattle.terms.specs.Readings.{shapeOf, partAt, refusalOf, termReading, termRefusal};
 
 // How many parts a code asks for.
@@ -11,8 +11,8 @@ enum Shape {
     Whole,
     One,
     Two,
-    // No code, or a name not below n.
-    NoCode,
+    // A quorum, which has any number; or no code, or a name not below n.
+    Other,
 }
 
 // What reading one part gives.
@@ -37,7 +37,7 @@ fn shape_of(code: u8, n: u64) -> Shape
         if (code as u64) < n {
             Shape::Whole
         } else {
-            Shape::NoCode
+            Shape::Other
         }
     } else {
         match code {
@@ -47,7 +47,7 @@ fn shape_of(code: u8, n: u64) -> Shape
             0x31 => Shape::Two,
             0x40 => Shape::One,
             0x41 => Shape::One,
-            _ => Shape::NoCode,
+            _ => Shape::Other,
         }
     }
 }
@@ -93,12 +93,66 @@ fn read_part(codes: &[u8], at: usize, n: u64) -> PartReading
                     here = second;
                 }
             }
-            Shape::NoCode => {
-                return PartReading::Stopped(2);
+            Shape::Other => {
+                let parts = read_quorum(codes, here, n);
+                let PartReading::Next(end) = parts else {
+                    return parts;
+                };
+                return PartReading::Next(end);
             }
         }
     }
     PartReading::Stopped(3)
+}
+
+// A quorum can be of k of m parts.
+pub fn in_range(k: u8, m: u8) -> bool
+    ensures { λ r. ⌜ r ≡ quorate k m ⌝ }
+{
+    if k < 1 {
+        return false;
+    }
+    k <= m && m <= 12
+}
+
+// Reads the part that starts at `at`, where it is a quorum by its k, its m and m parts. It calls itself on the parts, and not `read_part`, so that the compiler
+// keeps it out of `read_part`, whose loop then tells codes apart as fast as without quorums.
+fn read_quorum(codes: &[u8], at: usize, n: u64) -> PartReading
+    ensures { λ r. ⌜ r ≡ partAt (now (codes .entry)) at n ⌝ }
+{
+    if at >= codes.len() {
+        return PartReading::Stopped(3);
+    }
+    let code = codes[at];
+    let kind = shape_of(code, n);
+    let Shape::Other = kind else {
+        let whole = read_part(codes, at, n);
+        let PartReading::Next(end) = whole else {
+            return whole;
+        };
+        return PartReading::Next(end);
+    };
+    if code != 0x32 {
+        return PartReading::Stopped(2);
+    }
+    if codes.len() - at < 3 {
+        return PartReading::Stopped(3);
+    }
+    let mut left = codes[at + 2];
+    let fits = in_range(codes[at + 1], left);
+    if !fits {
+        return PartReading::Stopped(2);
+    }
+    let mut next = at + 3;
+    while 0 < left {
+        let part = read_quorum(codes, next, n);
+        let PartReading::Next(end) = part else {
+            return part;
+        };
+        next = end;
+        left -= 1;
+    }
+    PartReading::Next(next)
 }
 
 // The number of the refusal of a part.

@@ -1,6 +1,11 @@
 -- `terms::shape_of` meets its contract: in each arm the code is a number, at which `codeOf` computes. Assumes nothing.
 use borrow.Author.Tests.{lt-ltb, le-ltb, ne-eqb}
-use Rattle.model.specs.Terms.{codeOf}
+use mathlib.Core.Path.{_≡_, refl, sym}
+use mathlib.Core.Bool.{Bool, true, false, cond}
+use lib.Dec.{eqb}
+use Rattle.model.specs.Terms.{many, none, codeOf}
+use Rattle.terms.specs.Readings.{shapeOf}
+use Rattle.terms.specs.declared.Shape.the-variants.{Other}
 use Rattle.terms.proofs.shape_of.Statement.{statement}
 use Rattle.terms.proofs.shape_of.Tie as tie
 
@@ -36,11 +41,17 @@ returns-8 : tie.Need-returns-8
 unfolding codeOf
 returns-8 c = rw (c .match .keys6)
 
+-- a quorum's code too is another
+other-code : (b : Bool) → shapeOf (cond b many none) ≡ Other
+other-code true = refl
+other-code false = refl
+
 returns-9 : tie.Need-returns-9
 unfolding codeOf
 returns-9 c =
+    let a = c .before .before .args in
     let r = c .match .rest in
-    simp (le-ltb _ _ (c .before .if1 .left), ne-eqb _ _ (r .0 .0 .0 .0 .0 .1), ne-eqb _ _ (r .0 .0 .0 .0 .1), ne-eqb _ _ (r .0 .0 .0 .1), ne-eqb _ _ (r .0 .0 .1), ne-eqb _ _ (r .0 .1), ne-eqb _ _ (r .1))
+    simp (le-ltb _ _ (c .before .if1 .left), ne-eqb _ _ (r .0 .0 .0 .0 .0 .1), ne-eqb _ _ (r .0 .0 .0 .0 .1), ne-eqb _ _ (r .0 .0 .0 .1), ne-eqb _ _ (r .0 .0 .1), ne-eqb _ _ (r .0 .1), ne-eqb _ _ (r .1)) (sym (other-code (eqb (a .code) 0x32)))
 
 pub shape-of-spec : {M : Type 1} → statement M
 shape-of-spec =

@@ -7,14 +7,14 @@ use native.Mathlib.Nat.{mod-lt, pow-suc}
 use native.Mathlib.Decide.{ℕ-discrete, decLt}
 use native.Mathlib.Omega.{arith}
 use lib.Arith.{mod-mul}
-use lib.Dec.{eqb}
+use lib.Dec.{eqb, leb}
 use lib.ListN.{length, drop, getD, length-drop}
 use lib.Pow.{pow-pos, pow-mono}
 use lib.Seq.{getD-drop}
 use borrow.Author.Tests.{lt-ltb, le-ltb}
 use Rattle.model.specs.Sides.{Side, confidentiality, integrity}
 use Rattle.model.specs.Coalitions.{member, every, mark}
-use Rattle.model.specs.Terms.{Term, name, top, bottom, conj, disj, project, NamesBelow, held}
+use Rattle.model.specs.Terms.{Term, name, top, bottom, conj, disj, project, quorum, Terms, nil, cons, NamesBelow, PartsBelow, held, heldCount}
 use Rattle.model.specs.Grants.{Grant, marksOf, voice, heard}
 use Rattle.model.proofs.Truth.{bool-ext}
 use Rattle.model.proofs.Search.{every-elim, every-intro}
@@ -41,26 +41,40 @@ member-low (suc i) (suc m) c h =
     let e : c % 2 ^ suc m / 2 ≡ c / 2 % 2 ^ m = omega (arith, digits c m) in
     member-suc i (c % 2 ^ suc m) ∙ ap (member i) e ∙ member-low i m (c / 2) (omega arith) ∙ sym (member-suc i c)
 
-held-low : (m : ℕ) (t : Term) (s : Side) (c : ℕ) → NamesBelow m t → held t s (c % 2 ^ m) ≡ held t s c
-unfolding NamesBelow held
-held-low m (name i) s c h = member-low i m c (h .1)
-held-low m top s c h = refl
-held-low m bottom s c h = refl
-held-low m (conj p q) s c h = ap₂ _&&_ (held-low m p s c (h .0)) (held-low m q s c (h .1))
-held-low m (disj p q) s c h = ap₂ _||_ (held-low m p s c (h .0)) (held-low m q s c (h .1))
-held-low m (project confidentiality p) confidentiality c h = held-low m p confidentiality c h
-held-low m (project confidentiality p) integrity c h = refl
-held-low m (project integrity p) confidentiality c h = refl
-held-low m (project integrity p) integrity c h = held-low m p integrity c h
+mutual
+  unfolding NamesBelow held
 
-names-more : (a b : ℕ) (t : Term) → ((i : ℕ) → i < 12 → i < a → i < b) → NamesBelow a t → NamesBelow b t
-unfolding NamesBelow
-names-more a b (name i) more h = (h .0, more i (h .0) (h .1))
-names-more a b top more h = tt
-names-more a b bottom more h = tt
-names-more a b (conj p q) more h = (names-more a b p more (h .0), names-more a b q more (h .1))
-names-more a b (disj p q) more h = (names-more a b p more (h .0), names-more a b q more (h .1))
-names-more a b (project s p) more h = names-more a b p more h
+  held-low : (m : ℕ) (t : Term) (s : Side) (c : ℕ) → NamesBelow m t → held t s (c % 2 ^ m) ≡ held t s c
+  held-low m (name i) s c h = member-low i m c (h .1)
+  held-low m top s c h = refl
+  held-low m bottom s c h = refl
+  held-low m (conj p q) s c h = ap₂ _&&_ (held-low m p s c (h .0)) (held-low m q s c (h .1))
+  held-low m (disj p q) s c h = ap₂ _||_ (held-low m p s c (h .0)) (held-low m q s c (h .1))
+  held-low m (project confidentiality p) confidentiality c h = held-low m p confidentiality c h
+  held-low m (project confidentiality p) integrity c h = refl
+  held-low m (project integrity p) confidentiality c h = refl
+  held-low m (project integrity p) integrity c h = held-low m p integrity c h
+  held-low m (quorum k ts) s c h = ap (leb k) (count-low m ts s c (h .1))
+
+  count-low : (m : ℕ) (ts : Terms) (s : Side) (c : ℕ) → PartsBelow m ts → heldCount ts s (c % 2 ^ m) ≡ heldCount ts s c
+  count-low m nil s c h = refl
+  count-low m (cons t ts) s c h = rw (held-low m t s c (h .0), count-low m ts s c (h .1))
+
+mutual
+  unfolding NamesBelow
+
+  names-more : (a b : ℕ) (t : Term) → ((i : ℕ) → i < 12 → i < a → i < b) → NamesBelow a t → NamesBelow b t
+  names-more a b (name i) more h = (h .0, more i (h .0) (h .1))
+  names-more a b top more h = tt
+  names-more a b bottom more h = tt
+  names-more a b (conj p q) more h = (names-more a b p more (h .0), names-more a b q more (h .1))
+  names-more a b (disj p q) more h = (names-more a b p more (h .0), names-more a b q more (h .1))
+  names-more a b (project s p) more h = names-more a b p more h
+  names-more a b (quorum k ts) more h = (h .0, all-more a b ts more (h .1))
+
+  all-more : (a b : ℕ) (ts : Terms) → ((i : ℕ) → i < 12 → i < a → i < b) → PartsBelow a ts → PartsBelow b ts
+  all-more a b nil more h = tt
+  all-more a b (cons t ts) more h = (names-more a b t more (h .0), all-more a b ts more (h .1))
 
 -- a test that the further names make no difference to
 every-few : (f : ℕ → Bool) (m n : ℕ) → m ≤ n → ((c : ℕ) → f (c % 2 ^ m) ≡ f c) → every f (2 ^ m) ≡ every f (2 ^ n)

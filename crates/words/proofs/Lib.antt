@@ -2,7 +2,9 @@
 pub mod Packing
 pub mod FourWords
 pub mod Names
+pub mod Behind
 pub mod AnyBytes
+pub mod Tallies
 pub mod Steps
 pub mod Tables
 pub mod Searches

@@ -1,27 +1,70 @@
 -- What `hold` does at each code gives the rows of the term that the bytes stand for. Assumes nothing.
 use mathlib.Core.Path.{_≡_, refl, sym, ap, _∙_, subst}
-use mathlib.Core.Bool.{Bool, true, false, cond, _||_}
+use mathlib.Core.Bool.{Bool, true, false, cond, not, _&&_, _||_}
+use mathlib.Core.Logic.{⊎-elim}
 use mathlib.Core.List.{List}
-use Prim.Native.Nat.{ℕ, suc, _+_, _≤_, _<_}
-use native.Mathlib.Numerals.{add-one}
+use Prim.Native.Nat.{ℕ, _+_, _≤_, _<_}
 use native.Mathlib.Omega.{arith}
-use borrow.Author.Tests.{le-ltb, ne-eqb, eqb-true}
+use borrow.Author.Tests.{le-ltb, ltb-true, ne-eqb, eqb-true}
 use lib.Bits.{bitAnd, bitOr}
-use lib.Dec.{eqb}
-use lib.ListN.{length, drop, getD, drop-of-length-le}
-use lib.Seq.{drop-cons, drop-drop}
+use lib.Dec.{eqb, ltb}
+use lib.ListN.{length, drop, getD, List·getD-eq-default}
+use lib.Seq.{drop-drop}
 use Rattle.model.specs.Sides.{Side, confidentiality, integrity}
 use Rattle.model.specs.Coalitions.{member}
-use Rattle.model.specs.Terms.{Term, name, top, bottom, conj, disj, project, Code, whole, one, two, none, codeOf, held}
-use Rattle.model.proofs.Truth.{clash}
+use Rattle.model.specs.Terms.{Term, name, top, bottom, conj, disj, project, quorate, Code, whole, one, two, none, codeOf, held}
+use Rattle.model.proofs.Truth.{clash, and-left, and-right, lt-or-ge}
 use Rattle.model.proofs.Reading.{code-name}
 use Rattle.words.specs.declared.Row.{Row}
 use Rattle.words.specs.declared.Rows.{Rows}
-use Rattle.words.specs.AnyBytes.{Taken, takeParts, taken, termIn}
-use Rattle.words.specs.FourWords.{RowAt, RowsAt, eachWord, eachRow, sameRow, sameRows}
-use Rattle.words.specs.Evaluation.{Evaluated}
-use Rattle.words.proofs.AnyBytes.{taken-none, taken-step}
+use Rattle.words.specs.AnyBytes.{Taken, TakenAll, noCode, takeParts, taken, termIn}
+use Rattle.words.specs.FourWords.{RowAt, RowsAt, eachWord, eachRow, sameRow, sameRows, rowIn}
+use Rattle.words.specs.Evaluation.{Evaluated, leftOver, quorumAt}
+use Rattle.words.proofs.AnyBytes.{taken-end, taken-at, quorum-at, no-quorum-at, all-none}
+use Rattle.words.proofs.Tallies.{Weighing, tally-done}
 use Rattle.words.proofs.FourWords.{row-none, row-all, row-both, row-either, rows-each, rows-same, rows-of}
+
+neither : (a b : Bool) → (a || b) ≡ false → (a ≡ false) × (b ≡ false)
+neither false false e = (refl, refl)
+neither false true e = absurd (clash refl e)
+neither true b e = absurd (clash refl e)
+
+not-true : (b : Bool) → not b ≡ true → b ≡ false
+not-true false e = refl
+not-true true e = absurd (clash e refl)
+
+-- what a byte that is left over is not
+record NoneOf (c : ℕ) : Type 0 where
+  no-name : ltb c 12 ≡ false
+  no-both : eqb c 0x30 ≡ false
+  no-either : eqb c 0x31 ≡ false
+  no-bottom : eqb c 0x21 ≡ false
+  no-see : eqb c 0x40 ≡ false
+  no-change : eqb c 0x41 ≡ false
+
+left-over-is-none : (c : ℕ) → leftOver c ≡ true → NoneOf c
+left-over-is-none c e =
+    let sides = eqb c 0x40 || eqb c 0x41 in
+    let joins = eqb c 0x30 || eqb c 0x31 in
+    let name = neither (ltb c 12) (joins || (eqb c 0x21 || sides)) (not-true _ e) in
+    let join = neither joins (eqb c 0x21 || sides) (name .1) in
+    let bottom = neither (eqb c 0x21) sides (join .1) in
+    let two = neither (eqb c 0x30) (eqb c 0x31) (join .0) in
+    let side = neither (eqb c 0x40) (eqb c 0x41) (bottom .1) in
+    record { no-name = name .0; no-both = two .0; no-either = two .1; no-bottom = bottom .0; no-see = side .0; no-change = side .1 }
+
+no-code : (c : ℕ) → leftOver c ≡ true → eqb c 0x20 ≡ false → eqb c 0x32 ≡ false → codeOf 12 c ≡ none
+unfolding codeOf
+no-code c l t m =
+    let r = left-over-is-none c l in
+    rw (r .no-name, t, r .no-bottom, r .no-both, r .no-either, m, r .no-see, r .no-change)
+
+-- a byte that `hold` takes for no other code is left over, and a place with one is not past the end
+pub left-over : (c : ℕ) → 12 ≤ c → (eqb c 0x30 || eqb c 0x31) ≡ false → (c ≡ 0x21 → ⊥) → (c ≡ 0x40 → ⊥) → (c ≡ 0x41 → ⊥) → leftOver c ≡ true
+left-over c l j b e f = rw (le-ltb c 12 l, j, ne-eqb c 0x21 b, ne-eqb c 0x40 e, ne-eqb c 0x41 f)
+
+pub left-over-inside : (s : List ℕ) (at : ℕ) → leftOver (getD s at 0) ≡ true → at < length s
+left-over-inside s at e = ⊎-elim (λ l. l) (λ g. absurd (clash {b = leftOver 0} (rw (List·getD-eq-default s 0 {n = at} g) at e) refl)) (lt-or-ge at (length s))
 
 -- the strongest party is held nowhere
 top-rows : (g : ℕ) → RowsAt (held top) g (sameRows 0)
@@ -38,15 +81,13 @@ by-taken s at g x next t e rows past = record {
 -- past the end nothing is left to take
 pub eval-end : (s : List ℕ) (at g : ℕ) (x : Rows) → length s ≤ at → x ≡ sameRows 0 → Evaluated s at g x at
 eval-end s at g x h e =
-    rw e (by-taken s at g (sameRows 0) at (record { term = top; size = 0 }) (ap (λ (cs : List ℕ). taken cs) (drop-of-length-le s {i = at} h) ∙ taken-none) (top-rows g) (omega arith))
+    rw e (by-taken s at g (sameRows 0) at (record { term = top; size = 0 }) (taken-end s at h) (top-rows g) (omega arith))
 
 module _ (s : List ℕ) (at g : ℕ) (h : at < length s) where
   -- by what the code at the place is, from the parts after it
   eval : (m : Code) (x : Rows) (next : ℕ) → codeOf 12 (getD s at 0) ≡ m → RowsAt (held (takeParts taken m (drop (at + 1) s) .term)) g x
       → next ≡ at + takeParts taken m (drop (at + 1) s) .size → Evaluated s at g x next
-  eval m x next e =
-      by-taken s at g x next (takeParts taken m (drop (at + 1) s))
-      (ap (λ (cs : List ℕ). taken cs) (drop-cons s at 0 h) ∙ taken-step (getD s at 0) (drop (suc at) s) ∙ rw (add-one, e))
+  eval m x next e = by-taken s at g x next (takeParts taken m (drop (at + 1) s)) (taken-at s at h m e)
 
   pub eval-name : (x : Row) → getD s at 0 < 12 → RowAt (member (getD s at 0)) g x → Evaluated s at g (record { see = x; change = x }) (at + 1)
   unfolding held
@@ -102,17 +143,27 @@ module _ (s : List ℕ) (at g : ℕ) (h : at < length s) where
         by true c _ e = rw e (eval-conj (eqb-true _ 0x30 c))
         by false c d e = rw e (eval-disj (eqb-true _ 0x31 d))
 
-  -- another byte is no code
-  pub eval-other : (x : Rows) → x ≡ sameRows 0 → 12 ≤ getD s at 0 → (eqb (getD s at 0) 0x30 || eqb (getD s at 0) 0x31) ≡ false → (getD s at 0 ≡ 0x20 → ⊥) → (getD s at 0 ≡ 0x21 → ⊥)
-      → (getD s at 0 ≡ 0x40 → ⊥) → (getD s at 0 ≡ 0x41 → ⊥) → Evaluated s at g x (at + 1)
-  unfolding codeOf
-  eval-other x q l j t b e f =
-      let two-less = neither (eqb (getD s at 0) 0x30) (eqb (getD s at 0) 0x31) j in
-      rw q (eval none (sameRows 0) (at + 1)
-      (rw (le-ltb _ 12 l, ne-eqb _ 0x20 t, ne-eqb _ 0x21 b, two-less .0, two-less .1, ne-eqb _ 0x40 e, ne-eqb _ 0x41 f))
-      (top-rows g) refl)
+  -- a quorum in range, whose parts from three bytes on are all weighed
+  pub eval-quorum : (see change : List ℕ) (left next : ℕ) → left ≡ 0 → quorumAt s at ≡ true
+      → Weighing s (at + 3) (getD s (at + 2) 0) g (getD s (at + 1) 0) left next see change
+      → Evaluated s at g (record { see = rowIn see (getD s (at + 1) 0); change = rowIn change (getD s (at + 1) 0) }) next
+  eval-quorum see change left next z q w =
+      let k = getD s (at + 1) 0 in
+      let m = getD s (at + 2) 0 in
+      let in-range = and-right (eqb (getD s at 0) 0x32) (ltb (at + 2) (length s) && quorate k m) q in
+      let d : Weighing s (at + 3) m g k 0 next see change = rw z at w in
+      let none = all-none (drop next s) in
+      by-taken s at g _ next _
+      (quorum-at s at h (eqb-true _ 0x32 (and-left (eqb (getD s at 0) 0x32) (ltb (at + 2) (length s) && quorate k m) q))
+      (ltb-true (at + 2) (length s) (and-left (ltb (at + 2) (length s)) (quorate k m) in-range)) (and-right (ltb (at + 2) (length s)) (quorate k m) in-range))
+      (rows-of g _ _ _ (tally-done _ confidentiality k g see (rw none at (d .see-tally))) (tally-done _ integrity k g change (rw none at (d .change-tally))))
+      (omega (arith, d .place, ap (λ (x : TakenAll). x .size) none))
+
+  -- what else is left over: the strongest party, a quorum whose k or m is missing or out of range, and what is no code
+  pub eval-left-over : (x : Rows) → x ≡ sameRows 0 → leftOver (getD s at 0) ≡ true → quorumAt s at ≡ false → Evaluated s at g x (at + 1)
+  eval-left-over x q l n = by (eqb (getD s at 0) 0x20) (eqb (getD s at 0) 0x32) refl refl n
     where
-      neither : (a b : Bool) → (a || b) ≡ false → (a ≡ false) × (b ≡ false)
-      neither false false e = (refl, refl)
-      neither false true e = absurd (clash refl e)
-      neither true b e = absurd (clash refl e)
+      by : (a b : Bool) → eqb (getD s at 0) 0x20 ≡ a → eqb (getD s at 0) 0x32 ≡ b → (b && (ltb (at + 2) (length s) && quorate (getD s (at + 1) 0) (getD s (at + 2) 0))) ≡ false → Evaluated s at g x (at + 1)
+      by true b t m out = eval-top x q (eqb-true _ 0x20 t)
+      by false true t m out = rw q (by-taken s at g (sameRows 0) (at + 1) noCode (no-quorum-at s at h (eqb-true _ 0x32 m) out) (top-rows g) refl)
+      by false false t m out = rw q (eval none (sameRows 0) (at + 1) (no-code (getD s at 0) l t m) (top-rows g) refl)

@@ -1,14 +1,14 @@
 -- Where terms are held (document 01, "Terms"), 64 coalitions in a word, four words in a row: bit j of word w is coalition 64 × w + j. Assumes nothing: these
 -- are definitions.
 use mathlib.Core.Path.{_≡_}
-use mathlib.Core.Bool.{Bool, true, false}
+use mathlib.Core.Bool.{Bool, true, false, not, _&&_, _||_}
 use mathlib.Core.List.{List}
 use Prim.Native.Nat.{ℕ, _+_, _-_, _*_, _^_, _≤_, _<_, min}
-use lib.Dec.{ltb}
+use lib.Dec.{eqb, ltb}
 use lib.ListN.{length, drop, getD}
 use Rattle.model.specs.Sides.{Side}
 use Rattle.model.specs.Coalitions.{mark, packed}
-use Rattle.model.specs.Terms.{Term, held}
+use Rattle.model.specs.Terms.{Term, quorate, held}
 use Rattle.words.specs.declared.Rows.{Rows}
 use Rattle.words.specs.AnyBytes.{taken, termIn}
 use Rattle.words.specs.FourWords.{RowsAt}
@@ -41,6 +41,14 @@ ClearTo n f g = (c : ℕ) → c < 256 * g → mark n f c ≡ false
 pub record Evaluated (bytes : List ℕ) (at g : ℕ) (rows : Rows) (next : ℕ) : Type 0 where
   pub held-there : RowsAt (held (termIn (drop at bytes))) g rows
   pub past : next ≡ at + taken (drop at bytes) .size
+
+-- a byte that is no name, not both or either, not 21 and no side
+abbrev pub leftOver : ℕ → Bool
+leftOver c = not (ltb c 12 || ((eqb c 0x30 || eqb c 0x31) || (eqb c 0x21 || (eqb c 0x40 || eqb c 0x41))))
+
+-- there is a quorum's code at the place, and a k and an m in range follow it
+abbrev pub quorumAt : List ℕ → ℕ → Bool
+quorumAt bytes at = eqb (getD bytes at 0) 0x32 && (ltb (at + 2) (length bytes) && quorate (getD bytes (at + 1) 0) (getD bytes (at + 2) 0))
 
 -- the first k words of a list are those of the term on the side
 pub record Tabled (t : Term) (s : Side) (k : ℕ) (words : List ℕ) : Type 0 where

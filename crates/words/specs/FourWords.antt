@@ -2,10 +2,10 @@
 use mathlib.Core.Path.{_≡_}
 use mathlib.Core.Bool.{Bool, not, _&&_}
 use mathlib.Core.List.{List}
-use Prim.Native.Nat.{ℕ, zero, suc, _+_, _-_, _*_, _<_}
+use Prim.Native.Nat.{ℕ, zero, suc, _+_, _-_, _*_, _≤_, _<_}
 use lib.Bits.{bitAnd, bitOr}
 use lib.Dec.{eqb}
-use lib.ListN.{set}
+use lib.ListN.{length, getD, set}
 use Rattle.model.specs.Sides.{Side, confidentiality, integrity}
 use Rattle.model.specs.Coalitions.{Marks, packed}
 use Rattle.words.specs.declared.Row.{Row}
@@ -70,3 +70,13 @@ emptyRows x = emptyRow (eachWord bitOr (x .see) (x .change))
 -- a list whose words of row g are those of a row
 abbrev pub rowSet : List ℕ → ℕ → Row → List ℕ
 rowSet words g row = set (set (set (set words (4 * g) (row .a)) (4 * g + 1) (row .b)) (4 * g + 2) (row .c)) (4 * g + 3) (row .d)
+
+-- row g of a list of words
+abbrev pub rowIn : List ℕ → ℕ → Row
+rowIn words g = record { a = getD words (4 * g) 0; b = getD words (4 * g + 1) 0; c = getD words (4 * g + 2) 0; d = getD words (4 * g + 3) 0 }
+
+-- A quorum's table with room for place k, after one part more, of the row x: from 1 to k, place j + 1 gains what place j had and the part has.
+pub record Weighed (k : ℕ) (x : Row) (before after : List ℕ) : Type 0 where
+  pub same : length after ≡ length before
+  pub none : rowIn after 0 ≡ rowIn before 0
+  pub each : (j : ℕ) → j < k → 4 * (k + 1) ≤ length before → rowIn after (suc j) ≡ eachWord bitOr (rowIn before (suc j)) (eachWord bitAnd (rowIn before j) x)

@@ -1,15 +1,16 @@
 // Terms held at 256 coalitions at once (document 01, "Terms"): bit k of word j of row g is coalition 256 * g + 64 * j + k.
 ghost use mathlib.Core.Path.{_≡_};
 ghost use mathlib.Core.Bool.{cond, _&&_, _||_};
-ghost use Prim.Native.Nat.{_*_, _^_, _<_};
+ghost use Prim.Native.Nat.{_+_, _*_, _^_, _≤_, _<_};
 ghost use lib.Bits.{bitAnd, bitOr};
 ghost use lib.Dec.{eqb, ltb};
 ghost use lib.ListN.{length, getD};
 ghost use Rattle.model.specs.Sides.{confidentiality, integrity};
 ghost use Rattle.model.specs.Coalitions.{member, packed};
+ghost use Rattle.model.specs.Terms.{quorate};
 ghost use Rattle.words.specs.AnyBytes.{termIn};
-ghost use Rattle.words.specs.FourWords.{eachWord, eachRow, lacksWord, sameRow, sameRows, emptyRow, emptyRows, rowSet, RowAt};
-ghost use Rattle.words.specs.Evaluation.{coalitionWord, wordCount, rowCount, Evaluated, EvaluatedTo, LowestBit};
+ghost use Rattle.words.specs.FourWords.{eachWord, eachRow, lacksWord, sameRow, sameRows, emptyRow, emptyRows, rowSet, rowIn, RowAt, Weighed};
+ghost use Rattle.words.specs.Evaluation.{coalitionWord, wordCount, rowCount, leftOver, quorumAt, Evaluated, EvaluatedTo, LowestBit};
 
 // The word of the strongest party, held nowhere, and that of the weakest, held everywhere.
 const NONE: u64 = 0;
@@ -248,11 +249,9 @@ pub fn hold(codes: &[u8], at: usize, g: u64) -> Held
             rows: join(code, first, second),
         };
     }
+    // What is left over goes to `hold_quorum`, so that quorums cost the other codes no test. Its result is taken apart: handed on whole, that of every code would
+    // go through memory.
     match code {
-        0x20 => Held {
-            next: next,
-            rows: alike(NONE),
-        },
         0x21 => Held {
             next: next,
             rows: alike(ALL),
@@ -281,9 +280,136 @@ pub fn hold(codes: &[u8], at: usize, g: u64) -> Held
                 },
             }
         }
-        _ => Held {
-            next: next,
+        _ => {
+            let q = hold_quorum(codes, at, g);
+            let rows = q.rows;
+            Held { next: q.next, rows }
+        }
+    }
+}
+
+// The words of row g become those of a row.
+fn put_row(words: &mut [u64; 64], g: u64, row: Row)
+    requires { ⌜ g < 16 ⌝ }
+    ensures { λ _. ⌜ now (words .exit) ≡ rowSet (now (words .entry)) g row ⌝ }
+{
+    let at = 4 * g as usize;
+    words[at] = row.a;
+    words[at + 1] = row.b;
+    words[at + 2] = row.c;
+    words[at + 3] = row.d;
+}
+
+// Row g of a list of words.
+fn row_at(words: &[u64; 64], g: u64) -> Row
+    requires { ⌜ g < 16 ⌝ }
+    ensures { λ r. ⌜ r ≡ rowIn (now (words .entry)) g ⌝ }
+{
+    let at = 4 * g as usize;
+    Row {
+        a: words[at],
+        b: words[at + 1],
+        c: words[at + 2],
+        d: words[at + 3],
+    }
+}
+
+// One part more, of the row x, in a quorum's table: its row j has the coalitions that hold at least j of the parts so far.
+fn weigh(table: &mut [u64; 64], k: u64, x: Row)
+    requires { ⌜ k ≤ 12 ⌝ }
+    ensures { λ _. ⌜ Weighed k x (now (table .entry)) (now (table .exit)) ⌝ }
+{
+    let mut j = k;
+    while 0 < j {
+        let fewer = row_at(table, j - 1);
+        let enough = row_at(table, j);
+        put_row(table, j, either(enough, both(fewer, x)));
+        j -= 1;
+    }
+}
+
+// The byte at the place is one that `hold` leaves to `hold_quorum`: a quorum's code, 20, or no code.
+fn leaves(codes: &[u8], at: usize) -> bool
+    ensures { λ r. ⌜ r ≡ leftOver (getD (now (codes .entry)) at 0) ⌝ }
+{
+    if codes.len() <= at {
+        return false;
+    }
+    let code = codes[at];
+    if code < 12 {
+        return false;
+    }
+    if joins(code) {
+        return false;
+    }
+    match code {
+        0x21 => false,
+        0x40 => false,
+        0x41 => false,
+        _ => true,
+    }
+}
+
+// A k and an m in range follow the code at the place.
+pub fn in_range_at(codes: &[u8], at: usize) -> bool
+    ensures { λ r. ⌜ r ≡ (ltb (at + 2) (length (now (codes .entry))) && quorate (getD (now (codes .entry)) (at + 1) 0) (getD (now (codes .entry)) (at + 2) 0)) ⌝ }
+{
+    if codes.len() < 3 {
+        return false;
+    }
+    if codes.len() - 3 < at {
+        return false;
+    }
+    terms::in_range(codes[at + 1], codes[at + 2])
+}
+
+// There is a quorum's code at the place, and a k and an m in range follow it.
+fn is_quorum(codes: &[u8], at: usize) -> bool
+    ensures { λ r. ⌜ r ≡ quorumAt (now (codes .entry)) at ⌝ }
+{
+    if !in_range_at(codes, at) {
+        return false;
+    }
+    codes[at] == 0x32
+}
+
+// Row g of the term that the bytes from `at` on stand for, where it is a quorum by weighing its parts: k, m and m parts follow the code. It calls itself on
+// the parts, and not `hold`: so the compiler keeps it, and its tables, out of `hold`.
+fn hold_quorum(codes: &[u8], at: usize, g: u64) -> Held
+    ensures { λ r. ⌜ Evaluated (now (codes .entry)) at g (r .rows) (r .next) ⌝ }
+{
+    if !leaves(codes, at) {
+        let p = hold(codes, at, g);
+        let rows = p.rows;
+        return Held { next: p.next, rows };
+    }
+    if !is_quorum(codes, at) {
+        let after = at + 1;
+        return Held {
+            next: after,
             rows: alike(NONE),
+        };
+    }
+    let k = codes[at + 1] as u64;
+    let mut see = [0u64; 64];
+    put_row(&mut see, 0, same(ALL));
+    let mut change = [0u64; 64];
+    put_row(&mut change, 0, same(ALL));
+    let mut next = at + 3;
+    let mut left = codes[at + 2];
+    while 0 < left {
+        let p = hold_quorum(codes, next, g);
+        let part = p.rows;
+        weigh(&mut see, k, part.see);
+        weigh(&mut change, k, part.change);
+        next = p.next;
+        left -= 1;
+    }
+    Held {
+        next: next,
+        rows: Rows {
+            see: row_at(&see, k),
+            change: row_at(&change, k),
         },
     }
 }
@@ -354,18 +480,6 @@ pub fn row_count(n: u64) -> u64
         return 1 << (n - 8);
     }
     16
-}
-
-// The words of row g become those of a row.
-fn put_row(words: &mut [u64; 64], g: u64, row: Row)
-    requires { ⌜ g < 16 ⌝ }
-    ensures { λ _. ⌜ now (words .exit) ≡ rowSet (now (words .entry)) g row ⌝ }
-{
-    let at = 4 * g as usize;
-    words[at] = row.a;
-    words[at + 1] = row.b;
-    words[at + 2] = row.c;
-    words[at + 3] = row.d;
 }
 
 // All rows of a term of n names on both sides, row g in the four words from place 4 * g on: for what asks for them more than once.

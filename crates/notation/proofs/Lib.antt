@@ -1,6 +1,4 @@
 -- What the proofs of several functions use.
 pub mod Places
+pub mod Quorums
 pub mod Calls
-pub mod Marks
-pub mod Putting
-pub mod Parts

@@ -11,10 +11,10 @@ use lib.Seq.{drop-cons, drop-set-lt, getD-set-same}
 use borrow.Author.Tests.{ne-eqb}
 use Rattle.model.specs.Sides.{Side}
 use Rattle.model.specs.Terms.{projectCode, codes}
-use Rattle.model.specs.Texts.{Joiner, Tree, letter, bracket, signed, join, joiner, flat, term, joinRank}
-use Rattle.model.specs.Notation.{Back, ended, noText, leftward, Last, sole, side, closing, other, lastOf, endsIn, opened, joinedTo, readLast, readBack}
+use Rattle.model.specs.Texts.{Joiner, Tree, letter, signed, join, noPlace, joiner, flat, places, term, joinRank}
+use Rattle.model.specs.Notation.{Back, ended, noText, leftward, Last, sole, side, closing, other, lastOf, endsIn, joinedTo, readLast, readBack, aroundBack}
 use Rattle.model.proofs.Texts.{joinCode, partRank, join-codes, onto, onto-flat, onto-long, Right, last-right, back-sound, atom-none, atom-step, list-step}
-use Rattle.notation.specs.Reading.{endingOf, backward, Read}
+use Rattle.notation.specs.Reading.{endingOf, backward, ReadTo, Read, ReadBefore}
 use Rattle.notation.specs.declared.Ending.the-variants.{Sole, Sign, Closing, Other}
 use Rattle.notation.specs.declared.Left.{Left}
 use Rattle.notation.specs.declared.Left.the-variants.{Before, NoText}
@@ -38,7 +38,7 @@ backward-step s (suc e) h =
     rw k
 
 -- without the last one
-backward-less : (s : List ℕ) (e : ℕ) → drop 1 (backward s e) ≡ backward s (e - 1)
+pub backward-less : (s : List ℕ) (e : ℕ) → drop 1 (backward s e) ≡ backward s (e - 1)
 unfolding backward
 backward-less s zero = refl
 backward-less s (suc e) =
@@ -52,7 +52,7 @@ ends-some s zero c h = absurd (let z : _≡_ {A = ℕ} 0 1 = cc in omega arith)
 ends-some s (suc e) c h = omega arith
 
 -- a rest of them is a beginning of the text
-suffix : (s : List ℕ) (e : ℕ) (xs rest : List ℕ) → backward s e ≡ xs ++ rest → rest ≡ backward s (length rest)
+pub suffix : (s : List ℕ) (e : ℕ) (xs rest : List ℕ) → backward s e ≡ xs ++ rest → rest ≡ backward s (length rest)
 unfolding backward
 suffix s e [] rest h = let l : e ≡ length rest = sym (backward-long s e) ∙ ap length h in sym h ∙ ap (backward s) l
 suffix s zero (x ∷ xs) rest h = absurd (let z : _≡_ {A = ℕ} 0 1 = cc in omega arith)
@@ -105,15 +105,15 @@ module _ (n l : ℕ) (text : List ℕ) (end to : ℕ) (before after : List ℕ) 
 
 -- ---- what a reader returns
 
-read-none : (b : Back) (to : ℕ) (before after : List ℕ) → length after ≡ length before → b ≡ noText → Read b to before after NoText
-read-none b to before after z e = rw e (record { answer = refl; stored = tt; size = z })
+pub read-none : (b : Back) (to : ℕ) (rest before after : List ℕ) → length after ≡ length before → b ≡ noText → ReadTo b to rest before after NoText
+read-none b to rest before after z e = rw e (record { answer = refl; stored = tt; size = z })
 
-read-ended : (b : Back) (to : ℕ) (before after : List ℕ) (w : Tree) (left : List ℕ) (start from : ℕ) → b ≡ ended w left → start ≡ length left → from ≡ to - length (codes (term w))
-    → drop from after ≡ codes (term w) ++ drop to before → length after ≡ length before → Read b to before after (Before start from)
-read-ended b to before after w left start from e x y h z = rw e (record { answer = rw (x, y); stored = rw y at h; size = z })
+pub read-ended : (b : Back) (to : ℕ) (rest before after : List ℕ) (w : Tree) (left : List ℕ) (start from : ℕ) → b ≡ ended w left → start ≡ length left → from ≡ to - length (codes (term w))
+    → drop from after ≡ codes (term w) ++ rest → length after ≡ length before → ReadTo b to rest before after (Before start from)
+read-ended b to rest before after w left start from e x y h z = rw e (record { answer = rw (x, y); stored = rw y at h; size = z })
 
 -- one code more before those that stand from `from` on
-put-before : (mid : List ℕ) (from code : ℕ) (ds : List ℕ) → 1 ≤ from → from ≤ length mid → drop from mid ≡ ds → drop (from - 1) (set mid (from - 1) code) ≡ code ∷ ds
+pub put-before : (mid : List ℕ) (from code : ℕ) (ds : List ℕ) → 1 ≤ from → from ≤ length mid → drop from mid ≡ ds → drop (from - 1) (set mid (from - 1) code) ≡ code ∷ ds
 put-before mid from code ds h i e =
     let s : suc (from - 1) ≡ from = omega arith in
     let k : from - 1 < length (set mid (from - 1) code) = rw (length-set mid (from - 1) code) (omega arith) in
@@ -171,29 +171,29 @@ last-plain n c a b d e f = rw (ne-eqb c 0x2A a, ne-eqb c 0x5F b, ne-eqb c 0x3E d
 
 module _ (n : ℕ) (text : List ℕ) (end to : ℕ) (before : List ℕ) where
   pub atom-end : end ≡ 0 → Read (readBack n 0 (backward text end)) to before before NoText
-  atom-end h = read-none _ to before before refl (rw (backward-none text end h) (atom-none n))
+  atom-end h = read-none _ to _ before before refl (rw (backward-none text end h) (atom-none n))
 
   module _ (h : 0 < end) where
     abbrev last : Last
     last = lastOf n (getD text (end - 1) 0)
 
-    last-at : readBack n 0 (backward text end) ≡ readLast (readBack n) last (backward text (end - 1))
+    last-at : readBack n 0 (backward text end) ≡ readLast (readBack n) (aroundBack n) last (backward text (end - 1))
     last-at = ap (readBack n 0) (backward-step text end h) ∙ atom-step n (getD text (end - 1) 0) (backward text (end - 1))
 
     pub atom-sole : (code : ℕ) → endingOf last ≡ Sole code → end ≤ to → to ≤ length before
         → Read (readBack n 0 (backward text end)) to before (set before (to - 1) code) (Before (end - 1) (to - 1))
     atom-sole code e i k =
         let m = from-sole n (getD text (end - 1) 0) code last (last-right n (getD text (end - 1) 0)) e in
-        read-ended _ to before (set before (to - 1) code) (m .tree) (backward text (end - 1)) (end - 1) (to - 1)
-        (last-at ∙ ap (λ (x : Last). readLast (readBack n) x (backward text (end - 1))) (m .is)) (sym (backward-long text (end - 1))) (rw (m .coded))
+        read-ended _ to _ before (set before (to - 1) code) (m .tree) (backward text (end - 1)) (end - 1) (to - 1)
+        (last-at ∙ ap (λ (x : Last). readLast (readBack n) (aroundBack n) x (backward text (end - 1))) (m .is)) (sym (backward-long text (end - 1))) (rw (m .coded))
         (put-before before to code (drop to before) (omega arith) k refl ∙ rw (m .coded)) (length-set before (to - 1) code)
 
     pub atom-other : endingOf last ≡ Other → Read (readBack n 0 (backward text end)) to before before NoText
-    atom-other e = read-none _ to before before refl (last-at ∙ rw (from-other last e))
+    atom-other e = read-none _ to _ before before refl (last-at ∙ rw (from-other last e))
 
     module _ (code : ℕ) (e : endingOf last ≡ Sign code) where
       pub sign-none : (after : List ℕ) → length after ≡ length before → readBack n 0 (backward text (end - 1)) ≡ noText → Read (readBack n 0 (backward text end)) to before after NoText
-      sign-none after z g = read-none _ to before after z (last-at ∙ rw (from-sign code last e .is, g))
+      sign-none after z g = read-none _ to _ before after z (last-at ∙ rw (from-sign code last e .is, g))
 
       pub sign-ended : (mid : List ℕ) (start from : ℕ) → Got n 0 text (end - 1) to before mid start from → end ≤ to → to ≤ length before
           → Read (readBack n 0 (backward text end)) to before (set mid (from - 1) code) (Before start (from - 1))
@@ -203,46 +203,39 @@ module _ (n : ℕ) (text : List ℕ) (end to : ℕ) (before : List ℕ) where
           let b : from ≡ to - length (codes (term (g .tree))) = g .begins in
           let p : length (codes (term (g .tree))) + start ≤ end - 1 = g .paid in
           let z : length mid ≡ length before = g .size in
-          read-ended _ to before (set mid (from - 1) code) (signed (m .to) (g .tree)) (backward text start) start (from - 1)
-          (last-at ∙ ap (λ (x : Last). readLast (readBack n) x (backward text (end - 1))) (m .is) ∙ rw (g .is)) (sym (backward-long text start)) (omega arith)
+          read-ended _ to _ before (set mid (from - 1) code) (signed (m .to) (g .tree)) (backward text start) start (from - 1)
+          (last-at ∙ ap (λ (x : Last). readLast (readBack n) (aroundBack n) x (backward text (end - 1))) (m .is) ∙ rw (g .is)) (sym (backward-long text start)) (omega arith)
           (put-before mid from code (codes (term (g .tree)) ++ drop to before) (omega arith) (omega arith) (g .stored) ∙ rw (m .coded)) (length-set mid (from - 1) code ∙ z)
 
-    module _ (e : endingOf last ≡ Closing) where
-      closing-at : readBack n 0 (backward text end) ≡ leftward (readBack n 2 (backward text (end - 1))) opened
-      closing-at = last-at ∙ rw (from-closing last e)
-
-      pub closing-none : (after : List ℕ) → length after ≡ length before → readBack n 2 (backward text (end - 1)) ≡ noText → Read (readBack n 0 (backward text end)) to before after NoText
-      closing-none after z g = read-none _ to before after z (closing-at ∙ rw g)
-
-      module _ (after : List ℕ) (start from : ℕ) (g : Got n 2 text (end - 1) to before after start from) where
-        pub closing-other : endsIn 0x28 (backward text start) ≡ false → Read (readBack n 0 (backward text end)) to before after NoText
-        closing-other f = read-none _ to before after (g .size) (closing-at ∙ rw (g .is, f))
-
-        pub closing-ended : endsIn 0x28 (backward text start) ≡ true → Read (readBack n 0 (backward text end)) to before after (Before (start - 1) from)
-        unfolding term
-        closing-ended f =
-            read-ended _ to before after (bracket (g .tree)) (backward text (start - 1)) (start - 1) from
-            (closing-at ∙ rw (g .is, f, backward-less text start)) (sym (backward-long text (start - 1))) (g .begins) (g .stored) (g .size)
+    -- a closing bracket: no place is read yet
+    pub atom-closing : endingOf last ≡ Closing → (after : List ℕ) (r : Left) → ReadBefore (λ ws. aroundBack n ws (backward text (end - 1))) 0 to before after r
+        → Read (readBack n 0 (backward text end)) to before after r
+    unfolding places term codes
+    atom-closing e after r h =
+        let k = h .whole noPlace (drop to before) refl refl in
+        let z : to + 0 ≡ to = omega arith in
+        let x : readBack n 0 (backward text end) ≡ aroundBack n noPlace (backward text (end - 1)) = last-at ∙ rw (from-closing last e) in
+        rw x (rw z at k)
 
 -- ---- a list, by what stands before its last part
 
 module _ (n : ℕ) (j : Joiner) (text : List ℕ) (end to : ℕ) (before : List ℕ) where
   pub list-none : (after : List ℕ) → length after ≡ length before → readBack n (partRank j) (backward text end) ≡ noText → Read (readBack n (joinRank j) (backward text end)) to before after NoText
-  list-none after z e = read-none _ to before after z (list-step n j (backward text end) ∙ rw e)
+  list-none after z e = read-none _ to _ before after z (list-step n j (backward text end) ∙ rw e)
 
   module _ (mid : List ℕ) (start from : ℕ) (g : Got n (partRank j) text end to before mid start from) where
     list-at : readBack n (joinRank j) (backward text end) ≡ joinedTo j (readBack n (joinRank j)) (g .tree) (backward text start)
     list-at = list-step n j (backward text end) ∙ rw (g .is)
 
     pub list-alone : endsIn (joiner j) (backward text start) ≡ false → Read (readBack n (joinRank j) (backward text end)) to before mid (Before start from)
-    list-alone e = read-ended _ to before mid (g .tree) (backward text start) start from (list-at ∙ rw e) (sym (backward-long text start)) (g .begins) (g .stored) (g .size)
+    list-alone e = read-ended _ to _ before mid (g .tree) (backward text start) start from (list-at ∙ rw e) (sym (backward-long text start)) (g .begins) (g .stored) (g .size)
 
     module _ (e : endsIn (joiner j) (backward text start) ≡ true) where
       list-on : readBack n (joinRank j) (backward text end) ≡ leftward (readBack n (joinRank j) (backward text (start - 1))) (λ p left. ended (join j p (g .tree)) left)
       list-on = list-at ∙ rw (e, backward-less text start)
 
       pub list-more-none : (after : List ℕ) → length after ≡ length mid → readBack n (joinRank j) (backward text (start - 1)) ≡ noText → Read (readBack n (joinRank j) (backward text end)) to before after NoText
-      list-more-none after y f = read-none _ to before after (y ∙ g .size) (list-on ∙ rw f)
+      list-more-none after y f = read-none _ to _ before after (y ∙ g .size) (list-on ∙ rw f)
 
       pub list-more : (last : List ℕ) (first second : ℕ) → Got n (joinRank j) text (start - 1) from mid last first second → end ≤ to → to ≤ length before
           → Read (readBack n (joinRank j) (backward text end)) to before (set last (second - 1) (joinCode j)) (Before first (second - 1))
@@ -256,7 +249,7 @@ module _ (n : ℕ) (j : Joiner) (text : List ℕ) (end to : ℕ) (before : List 
           let kp : length (codes (term (k .tree))) + first ≤ start - 1 = k .paid in
           let jc : codes (term (join j (k .tree) (g .tree))) ≡ joinCode j ∷ (codes (term (k .tree)) ++ codes (term (g .tree))) = join-codes j (term (k .tree)) (term (g .tree)) in
           let c : length (codes (term (join j (k .tree) (g .tree)))) ≡ suc (length (codes (term (k .tree))) + length (codes (term (g .tree)))) = ap length jc ∙ ap suc (length-append (codes (term (k .tree))) (codes (term (g .tree)))) in
-          read-ended _ to before (set last (second - 1) (joinCode j)) (join j (k .tree) (g .tree)) (backward text first) first (second - 1)
+          read-ended _ to _ before (set last (second - 1) (joinCode j)) (join j (k .tree) (g .tree)) (backward text first) first (second - 1)
           (list-on ∙ rw (k .is)) (sym (backward-long text first)) (omega arith)
           (put-before last second (joinCode j) (codes (term (k .tree)) ++ (codes (term (g .tree)) ++ drop to before)) (omega arith) (omega arith) (k .stored ∙ ap (λ (y : List ℕ). codes (term (k .tree)) ++ y) (g .stored))
           ∙ rw (jc, append-assoc)) (length-set last (second - 1) (joinCode j) ∙ s)

@@ -1,3 +1,2 @@
--- What the promises of the notation's code cite.
+-- What the promises of the notation's reader cite.
 pub mod Reading
-pub mod Writing

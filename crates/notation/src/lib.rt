@@ -1,23 +1,17 @@
-// Terms on paper (document 02, K1): texts are read to codes, and terms are written as texts.
-use terms::TermReading;
+// Terms on paper (document 02, K1 and K4): texts are read to codes.
 ghost use mathlib.Core.Path.{_≡_};
 ghost use Prim.Native.Nat.{_+_, _≤_};
-ghost use lib.ListN.{length, drop};
-ghost use Rattle.model.specs.Texts.{flat};
-ghost use Rattle.model.specs.Notation.{lastOf, endsIn, readBack, readText, writeTerm};
-ghost use Rattle.words.specs.AnyBytes.{termIn};
-ghost use Rattle.notation.specs.Reading.{outcomeOf, endingOf, backward, Room, Read};
-ghost use Rattle.notation.specs.Writing.{markOf, bracketed, within, Put, Wrote};
+ghost use lib.ListN.{length};
+ghost use Rattle.model.specs.Notation.{lastOf, endsIn, readNumber, opened, readBack, aroundBack, readText};
+ghost use Rattle.notation.specs.Reading.{outcomeOf, endingOf, numeralOf, backward, Room, Read, ReadBefore};
 
-// What a call gives.
+// What a call gives, of reading and of writing.
 pub enum Noted {
     // How many bytes were written.
     Written(usize),
     // The number of the refusal.
     Refused(u8),
 }
-
-// Reading.
 
 // What a character is as the last of an atom.
 enum Ending {
@@ -72,6 +66,98 @@ fn ends_in(text: &[u8], end: usize, c: u8) -> bool
     text[end - 1] == c
 }
 
+// A number at the end of a text.
+enum Numeral {
+    // The number, and how many characters are left before it.
+    Of(u8, usize),
+    NoNumeral,
+}
+
+// The number that the first `end` characters end with: the last digit, and ten more where a 1 stands before it.
+fn read_number(text: &[u8], end: usize) -> Numeral
+    requires { ⌜ end ≤ length (now text) ⌝ }
+    ensures { λ r. ⌜ r ≡ numeralOf (readNumber (backward (now (text .entry)) end)) ⌝ }
+{
+    if end == 0 {
+        return Numeral::NoNumeral;
+    }
+    let last = end - 1;
+    let c = text[last];
+    if c < b'0' {
+        return Numeral::NoNumeral;
+    }
+    if b'9' < c {
+        return Numeral::NoNumeral;
+    }
+    let ten = ends_in(text, last, b'1');
+    if ten {
+        return Numeral::Of(10 + (c - b'0'), last - 1);
+    }
+    Numeral::Of(c - b'0', last)
+}
+
+// Ends the reading of `many` places, whose codes start at `to`. Their opening bracket stands behind the first `end` characters: where a number stands before it
+// they are those of a quorum, and k, m and its code are put before theirs; otherwise it is one place, a text in brackets.
+fn read_opening(text: &[u8], end: usize, scratch: &mut [u8; 256], to: usize, many: usize) -> Left
+    requires { ⌜ Room (now text) end to (now scratch) ⌝ }
+    ensures { λ r. ⌜ ReadBefore (λ ws. opened ws (backward (now (text .entry)) end)) many to (now (scratch .entry)) (now (scratch .exit)) r ⌝ }
+{
+    let second = read_number(text, end);
+    let Numeral::Of(m, colon) = second else {
+        if many == 1 {
+            return Left::Before(end, to);
+        }
+        return Left::NoText;
+    };
+    if m as usize != many {
+        return Left::NoText;
+    }
+    let parted = ends_in(text, colon, b':');
+    if !parted {
+        return Left::NoText;
+    }
+    let first = read_number(text, colon - 1);
+    let Numeral::Of(k, start) = first else {
+        return Left::NoText;
+    };
+    let fits = terms::in_range(k, m);
+    if !fits {
+        return Left::NoText;
+    }
+    scratch[to - 1] = m;
+    scratch[to - 2] = k;
+    scratch[to - 3] = 0x32;
+    Left::Before(start, to - 3)
+}
+
+// Reads the rest of a text in brackets, or of a quorum, of which `many` places are read already: the either-list that the first `end` characters end with is one
+// more, and before it stands a comma, or the opening bracket.
+fn read_places(
+    n: u64,
+    text: &[u8],
+    end: usize,
+    scratch: &mut [u8; 256],
+    to: usize,
+    many: usize,
+) -> Left
+    requires { ⌜ Room (now text) end to (now scratch) × (many + end ≤ 256) ⌝ }
+    ensures { λ r. ⌜ ReadBefore (λ ws. aroundBack n ws (backward (now (text .entry)) end)) many to (now (scratch .entry)) (now (scratch .exit)) r ⌝ }
+{
+    let part = read_either(n, text, end, scratch, to);
+    let Left::Before(start, from) = part else {
+        return Left::NoText;
+    };
+    let more = ends_in(text, start, b',');
+    if more {
+        return read_places(n, text, start - 1, scratch, from, many + 1);
+    }
+    let first = ends_in(text, start, b'(');
+    if !first {
+        return Left::NoText;
+    }
+    read_opening(text, start - 1, scratch, from, many + 1)
+}
+
 // Reads the atom that the first `end` characters end with. Its codes are put into the scratch, right before `to`.
 fn read_atom(n: u64, text: &[u8], end: usize, scratch: &mut [u8; 256], to: usize) -> Left
     requires { ⌜ Room (now text) end to (now scratch) ⌝ }
@@ -95,17 +181,7 @@ fn read_atom(n: u64, text: &[u8], end: usize, scratch: &mut [u8; 256], to: usize
             scratch[from - 1] = code;
             Left::Before(start, from - 1)
         }
-        Ending::Closing => {
-            let part = read_either(n, text, last, scratch, to);
-            let Left::Before(start, from) = part else {
-                return Left::NoText;
-            };
-            let opened = ends_in(text, start, b'(');
-            if !opened {
-                return Left::NoText;
-            }
-            Left::Before(start - 1, from)
-        }
+        Ending::Closing => read_places(n, text, last, scratch, to, 0),
         Ending::Other => Left::NoText,
     }
 }
@@ -178,115 +254,4 @@ pub fn read_text(n: u64, text: &[u8], codes: &mut [u8]) -> Noted
         return Noted::Refused(83);
     }
     Noted::Written(bytes::copy(&scratch[from..], codes))
-}
-
-// Writing.
-
-// What a code is on paper.
-enum Mark {
-    // A name, * or _.
-    Whole(u8),
-    // > or <, after the part.
-    Sign(u8),
-    // & or |, between the parts; the rank of the list, which its left part may have, and that of its right part.
-    Joiner(u8, u8, u8),
-}
-
-// A byte that is no code stands for the strongest party; the term reader refuses it.
-fn mark_of(code: u8) -> Mark
-    ensures { λ r. ⌜ r ≡ markOf code ⌝ }
-{
-    if code < 12 {
-        return Mark::Whole(b'a' + code);
-    }
-    match code {
-        0x20 => Mark::Whole(b'*'),
-        0x21 => Mark::Whole(b'_'),
-        0x30 => Mark::Joiner(b'&', 1, 0),
-        0x31 => Mark::Joiner(b'|', 2, 1),
-        0x40 => Mark::Sign(b'>'),
-        0x41 => Mark::Sign(b'<'),
-        _ => Mark::Whole(b'*'),
-    }
-}
-
-// Where writing stands: the next code, and the next character.
-struct Place {
-    next: usize,
-    to: usize,
-}
-
-// Puts the bracket c at `to` if a list of rank `own` needs it, where only ranks up to `rank` stand without. The result is the place after it.
-fn put_bracket(c: u8, own: u8, rank: u8, text: &mut [u8], to: usize) -> usize
-    requires { ⌜ to + length (bracketed c own rank) ≤ length (now text) ⌝ }
-    ensures { λ r. ⌜ Put (bracketed c own rank) (now (text .entry)) (now (text .exit)) to r ⌝ }
-{
-    if own <= rank {
-        return to;
-    }
-    text[to] = c;
-    to + 1
-}
-
-// Writes the term whose codes start at `at`, in brackets where its rank is over `rank`.
-fn write_part(codes: &[u8], at: usize, rank: u8, text: &mut [u8], to: usize) -> Place
-    requires { ⌜ to + length (flat (within rank (termIn (drop at (now codes))))) ≤ length (now text) ⌝ }
-    ensures { λ r. ⌜ Wrote (now (codes .entry)) at rank (now (text .entry)) (now (text .exit)) to (r .next) (r .to) ⌝ }
-{
-    if codes.len() <= at {
-        text[to] = b'*';
-        return Place {
-            next: at,
-            to: to + 1,
-        };
-    }
-    let mark = mark_of(codes[at]);
-    match mark {
-        Mark::Whole(c) => {
-            text[to] = c;
-            Place {
-                next: at + 1,
-                to: to + 1,
-            }
-        }
-        Mark::Sign(c) => {
-            let part = write_part(codes, at + 1, 0, text, to);
-            let end = part.to;
-            text[end] = c;
-            Place {
-                next: part.next,
-                to: end + 1,
-            }
-        }
-        Mark::Joiner(c, own, under) => {
-            let first = put_bracket(b'(', own, rank, text, to);
-            let left = write_part(codes, at + 1, own, text, first);
-            let middle = left.to;
-            text[middle] = c;
-            let right = write_part(codes, left.next, under, text, middle + 1);
-            let end = put_bracket(b')', own, rank, text, right.to);
-            Place {
-                next: right.next,
-                to: end,
-            }
-        }
-    }
-}
-
-// Takes n, a term and a buffer of 256 bytes, for its text. Later bytes keep their content, and a refused call leaves all.
-pub fn write_term(n: u64, term: &[u8], text: &mut [u8]) -> Noted
-    ensures { λ r. ⌜ outcomeOf r (now (text .exit)) ≡ writeTerm n (now (term .entry)) (now (text .entry)) ⌝ }
-{
-    if n < 1 || 12 < n {
-        return Noted::Refused(7);
-    }
-    if text.len() != 256 {
-        return Noted::Refused(81);
-    }
-    let reading = terms::read_term(term, n);
-    let TermReading::Accepted = reading else {
-        return Noted::Refused(terms::term_refusal(reading));
-    };
-    let end = write_part(term, 0, 2, text, 0);
-    Noted::Written(end.to)
 }

@@ -42,7 +42,7 @@ pub extern "C" fn trials_write_term(n: u64, term: &[u8], text: &mut [u8]) -> u32
     ensures answered { λ r. ⌜ r ≡ number (writeTerm n (now (term .entry)) (now (text .entry)) .answer) ⌝ }
     ensures written { λ _. ⌜ now (text .exit) ≡ writeTerm n (now (term .entry)) (now (text .entry)) .buffer ⌝ }
 {
-    noted_number(notation::write_term(n, term, text))
+    noted_number(writing::write_term(n, term, text))
 }
 
 // Adds 0 to 366 days to a date: the number is the date, which no refusal's number is.

@@ -1,14 +1,14 @@
--- `notation::put_bracket` meets its contract: nothing is put, or one character. Assumes nothing.
+-- `writing::put_bracket` meets its contract: nothing is put, or one character. Assumes nothing.
 use native.Mathlib.Omega.{arith}
 use Prim.Native.Nat.{_+_, _≤_, _<_}
 use lib.ListN.{length}
 use borrow.Author.Needs.{needs}
 use borrow.Author.Tests.{le-leb, lt-leb}
-use Rattle.notation.proofs.Putting.{put-none, put-one}
-use Rattle.notation.proofs.put_bracket.Statement.{statement}
-use Rattle.notation.proofs.put_bracket.Tie as tie
-use Rattle.notation.proofs.put_bracket.Reads as reads
-use Rattle.notation.proofs.put_bracket.Lts as lts
+use Rattle.writing.proofs.Putting.{put-none, put-one}
+use Rattle.writing.proofs.put_bracket.Statement.{statement}
+use Rattle.writing.proofs.put_bracket.Tie as tie
+use Rattle.writing.proofs.put_bracket.Reads as reads
+use Rattle.writing.proofs.put_bracket.Lts as lts
 
 returns : tie.Need-returns
 returns c = let a = c .before .args in rw (le-leb (a .own) (a .rank) (omega arith)) (put-none (a .text .now) (a .to))

@@ -11,9 +11,9 @@ use Rattle.model.specs.Texts.{Tree, bracket, flat, rank, atMost, fewest}
 use Rattle.model.proofs.Bracketed.{atMost-low}
 use Rattle.words.specs.AnyBytes.{Taken, taken, termIn}
 use Rattle.words.proofs.AnyBytes.{taken-none}
-use Rattle.notation.specs.Writing.{bracketed, within, Put, Wrote}
-use Rattle.notation.proofs.Marks.{IsWhole, IsSigned, IsJoined}
-use Rattle.notation.proofs.Putting.{put-one, put-more, put-length}
+use Rattle.writing.specs.Writing.{bracketed, within, Put, Wrote}
+use Rattle.writing.proofs.Marks.{IsWhole, IsSigned, IsJoined}
+use Rattle.writing.proofs.Putting.{put-one, put-more, put-length}
 
 -- a text between its brackets, where it needs them
 atMost-flat : (l : ℕ) (w : Tree) → flat (atMost l w) ≡ bracketed 0x28 (rank w) l ++ (flat w ++ bracketed 0x29 (rank w) l)

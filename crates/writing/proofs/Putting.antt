@@ -6,7 +6,7 @@ use mathlib.Core.Path.{_≡_, refl, sym, ap, _∙_}
 use mathlib.Core.List.{List, [], _∷_, _++_, append-assoc}
 use lib.ListN.{length, take, drop, set, length-append, length-drop, take-append-drop}
 use lib.Seq.{drop-drop, drop-append-add, take-at, set-split, length-take-le}
-use Rattle.notation.specs.Writing.{put, Put}
+use Rattle.writing.specs.Writing.{put, Put}
 
 put-long : (d : List ℕ) (to : ℕ) (f : List ℕ) → to + length f ≤ length d → length (put d to f) ≡ length d
 put-long d to f h =

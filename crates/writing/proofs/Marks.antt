@@ -7,28 +7,37 @@ use mathlib.Core.List.{List, [], _∷_, _++_}
 use lib.Dec.{eqb, ltb}
 use lib.ListN.{length, drop, getD}
 use lib.Seq.{drop-cons, drop-drop}
-use Rattle.model.specs.Terms.{Term, name, Code, whole, one, two, none, codeOf}
+use Rattle.model.specs.Terms.{Term, name, Code, whole, one, two, many, none, codeOf}
 use Rattle.model.specs.Texts.{flat, rank, fewest}
-use Rattle.words.specs.AnyBytes.{Taken, takeParts, taken, termIn}
+use Rattle.model.proofs.Reading.{Right, code-right}
+use Rattle.words.specs.AnyBytes.{Taken, noCode, takeParts, taken, termIn}
 use Rattle.words.proofs.AnyBytes.{taken-step}
-use Rattle.notation.specs.Writing.{markOf, within}
-use Rattle.notation.specs.declared.Mark.{Mark}
-use Rattle.notation.specs.declared.Mark.the-variants.{Whole, Sign, Joiner}
+use Rattle.writing.specs.Writing.{markOf, within}
+use Rattle.writing.specs.declared.Mark.{Mark}
+use Rattle.writing.specs.declared.Mark.the-variants.{Whole, Sign, Joiner, Quorum}
 
 -- the mark shows what the code asks for
 abbrev Shown : Mark → Code → Type 0
 Shown (Whole c) (whole t) = (flat (fewest t) ≡ c ∷ []) × (rank (fewest t) ≡ 0)
 Shown (Whole c) (one f) = ⊥
 Shown (Whole c) (two f) = ⊥
+Shown (Whole c) many = ⊥
 Shown (Whole c) none = c ≡ 0x2A
 Shown (Sign c) (whole t) = ⊥
 Shown (Sign c) (one f) = (p : Term) → (flat (fewest (f p)) ≡ flat (within 0 p) ++ (c ∷ [])) × (rank (fewest (f p)) ≡ 0)
 Shown (Sign c) (two f) = ⊥
+Shown (Sign c) many = ⊥
 Shown (Sign c) none = ⊥
 Shown (Joiner c own under) (whole t) = ⊥
 Shown (Joiner c own under) (one f) = ⊥
 Shown (Joiner c own under) (two f) = (p q : Term) → (flat (fewest (f p q)) ≡ flat (within own p) ++ (c ∷ flat (within under q))) × (rank (fewest (f p q)) ≡ own)
+Shown (Joiner c own under) many = ⊥
 Shown (Joiner c own under) none = ⊥
+Shown Quorum (whole t) = ⊥
+Shown Quorum (one f) = ⊥
+Shown Quorum (two f) = ⊥
+Shown Quorum many = Unit {0}
+Shown Quorum none = ⊥
 
 shown-cond : (b : Bool) (m k : Mark) (x y : Code) → Shown m x → Shown k y → Shown (cond b m k) (cond b x y)
 shown-cond true m k x y p q = p
@@ -42,7 +51,8 @@ code-shown c =
     (shown-cond (eqb c 0x21) _ _ _ _ (refl, refl)
     (shown-cond (eqb c 0x30) _ _ _ _ (λ p q. (refl, refl))
     (shown-cond (eqb c 0x31) _ _ _ _ (λ p q. (refl, refl))
-    (shown-cond (eqb c 0x40) _ _ _ _ (λ p. (refl, refl)) (shown-cond (eqb c 0x41) _ _ _ _ (λ p. (refl, refl)) refl))))))
+    (shown-cond (eqb c 0x32) _ _ _ _ tt
+    (shown-cond (eqb c 0x40) _ _ _ _ (λ p. (refl, refl)) (shown-cond (eqb c 0x41) _ _ _ _ (λ p. (refl, refl)) refl)))))))
   where
     named : (b : Bool) (m : Mark) (y : Code) → Shown m y → Shown (cond b (Whole (0x61 + c)) m) (cond b (cond b (whole (name c)) none) y)
     named true m y q = (refl, refl)
@@ -87,12 +97,14 @@ module _ (bytes : List ℕ) (at : ℕ) (h : at < length bytes) where
   is-whole c (whole t) s e = record { text = texts e ∙ s .0; low = ranks e ∙ s .1; size = sizes e }
   is-whole c (one f) s e = absurd s
   is-whole c (two f) s e = absurd s
+  is-whole c many s e = absurd s
   is-whole c none s e = record { text = texts e ∙ ap (λ (k : ℕ). k ∷ []) (sym s); low = ranks e; size = sizes e }
 
   is-signed : (c : ℕ) (x : Code) → Shown (Sign c) x → taken (drop at bytes) ≡ takeParts taken x (drop (at + 1) bytes) → IsSigned bytes at c
   is-signed c (whole t) s e = absurd s
   is-signed c (one f) s e = let k = s (termIn (drop (at + 1) bytes)) in record { text = texts e ∙ k .0; low = ranks e ∙ k .1; size = sizes e }
   is-signed c (two f) s e = absurd s
+  is-signed c many s e = absurd s
   is-signed c none s e = absurd s
 
   is-joined : (c own under next : ℕ) (x : Code) → Shown (Joiner c own under) x → taken (drop at bytes) ≡ takeParts taken x (drop (at + 1) bytes)
@@ -107,6 +119,7 @@ module _ (bytes : List ℕ) (at : ℕ) (h : at < length bytes) where
         own-rank = ranks e ∙ ap (λ (l : List ℕ). rank (fewest (g (termIn (drop (at + 1) bytes)) (termIn l)))) d ∙ k .1;
         size = sizes e ∙ ap (λ (l : List ℕ). suc (taken (drop (at + 1) bytes) .size + taken l .size)) d;
       }
+  is-joined c own under next many s e f = absurd s
   is-joined c own under next none s e f = absurd s
 
   pub whole-at : (c : ℕ) → markOf (getD bytes at 0) ≡ Whole c → IsWhole bytes at c
@@ -117,3 +130,23 @@ module _ (bytes : List ℕ) (at : ℕ) (h : at < length bytes) where
 
   pub joined-at : (c own under next : ℕ) → markOf (getD bytes at 0) ≡ Joiner c own under → next ≡ at + 1 + taken (drop (at + 1) bytes) .size → IsJoined bytes at c own under next
   joined-at c own under next m f = is-joined c own under next (codeOf 12 (getD bytes at 0)) (rw m at (code-shown (getD bytes at 0))) taken-at f
+
+-- only a quorum's code has its mark
+pub quorum-code : (c : ℕ) → markOf c ≡ Quorum → c ≡ 0x32
+quorum-code c m = by (codeOf 12 c) (code-right 12 c) (rw m at (code-shown c))
+  where
+    by : (x : Code) → Right 12 c x → Shown Quorum x → c ≡ 0x32
+    by (whole t) h s = absurd s
+    by (one f) h s = absurd s
+    by (two f) h s = absurd s
+    by many h s = h
+    by none h s = absurd s
+
+-- a byte that is taken as no code stands for the strongest party
+pub none-at : (bytes : List ℕ) (at : ℕ) → taken (drop at bytes) ≡ noCode → IsWhole bytes at 0x2A
+unfolding flat fewest rank
+none-at bytes at e = record {
+  text = ap (λ (x : Taken). flat (fewest (x .term))) e;
+  low = ap (λ (x : Taken). rank (fewest (x .term))) e;
+  size = ap (λ (x : Taken). x .size) e;
+}

@@ -1,4 +1,4 @@
--- `notation::write_term` meets its contract: each return is a law of `proofs/Calls.antt`. Assumes nothing.
+-- `writing::write_term` meets its contract: each return is a law of `proofs/Calls.antt`. Assumes nothing.
 use native.Mathlib.Omega.{arith}
 use mathlib.Core.Logic.{inl, inr, ⊎-elim}
 use mathlib.Core.Path.{sym, ap, _∙_}
@@ -6,9 +6,9 @@ use borrow.Author.Needs.{needs}
 use borrow.Author.Tests.{ltb-true}
 use Rattle.terms.specs.Readings.{termRefusal}
 use Rattle.terms.specs.declared.TermReading.the-variants.{Refused}
-use Rattle.notation.proofs.Calls.{term-7, term-81, term-1-to-4, term-room, term-text}
-use Rattle.notation.proofs.write_term.Statement.{statement}
-use Rattle.notation.proofs.write_term.Tie as tie
+use Rattle.writing.proofs.Calls.{term-7, term-81, term-1-to-4, term-room, term-text}
+use Rattle.writing.proofs.write_term.Statement.{statement}
+use Rattle.writing.proofs.write_term.Tie as tie
 
 returns : tie.Need-returns
 returns c = term-7 _ _ _ (⊎-elim (λ w. inl (w .taken)) (λ w. inr (ltb-true _ _ (w .1 .taken))) (c .if1 .came))

@@ -1,0 +1,2 @@
+-- What the promises of the notation's writer cite.
+pub mod Writing

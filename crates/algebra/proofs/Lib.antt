@@ -1,5 +1,6 @@
 -- The theorems' proofs; a function's own proof only cites them.
 pub mod Coalitions
+pub mod Meanings
 pub mod Soundness
 pub mod Principals
 pub mod Completeness

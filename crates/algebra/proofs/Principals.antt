@@ -1,26 +1,26 @@
 -- What Definitions 1 and 2 say beyond the rules' constructors, derived; and the cut.
 use mathlib.Core.List.{List}
 use Rattle.model.specs.Sides.{Side, confidentiality, integrity}
-use Rattle.model.specs.Terms.{Term, bottom, conj, disj, project}
+use Rattle.algebra.specs.Principals.{Principal, bottom, conj, disj, project}
 use Rattle.model.specs.Grants.{Grant}
 use Rattle.algebra.specs.Algebra.{other, ActsFor, botR, self, proj, projR, conjL₁, conjL₂, conjR, disjL, disjR₁, disjR₂, then, distr, conj-project, disj-project, basis, crossed, ProjectionLaws}
 
 module _ {G : List Grant} where
   -- both sides together are the whole, in either order
-  joined : (s : Side) (p : Term) → ActsFor G (conj (project s p) (project (other s) p)) p
+  joined : (s : Side) (p : Principal) → ActsFor G (conj (project s p) (project (other s) p)) p
   joined confidentiality p = basis
   joined integrity p = then (conjR (conjL₂ self) (conjL₁ self)) basis
 
   -- a side of the same side is that side
-  pub twice : (s : Side) (p : Term) → ActsFor G (project s (project s p)) (project s p)
+  pub twice : (s : Side) (p : Principal) → ActsFor G (project s (project s p)) (project s p)
   twice s p = then (conjR self (then botR (crossed s p))) (joined s (project s p))
 
   -- two principals are compared side by side
-  pub by-sides : {p q : Term} → ((s : Side) → ActsFor G (project s p) (project s q)) → ActsFor G p q
+  pub by-sides : {p q : Principal} → ((s : Side) → ActsFor G (project s p) (project s q)) → ActsFor G p q
   by-sides f = then (conjR (then (projR confidentiality) (f confidentiality)) (then (projR integrity) (f integrity))) basis
 
   -- either of two different sides is the weakest
-  apart-sides : (p q : Term) → ActsFor G bottom (disj (project confidentiality p) (project integrity q))
+  apart-sides : (p q : Principal) → ActsFor G bottom (disj (project confidentiality p) (project integrity q))
   apart-sides p q =
       then
       (conjR
@@ -29,7 +29,7 @@ module _ {G : List Grant} where
       basis
 
   -- the cut
-  pub cut : {x y a : Term} → ActsFor G (conj x a) y → ActsFor G x (disj a y) → ActsFor G x y
+  pub cut : {x y a : Principal} → ActsFor G (conj x a) y → ActsFor G x (disj a y) → ActsFor G x y
   cut with-a or-a = then (conjR self or-a) (then distr (disjL with-a (conjL₂ self)))
 
 pub projection-laws : (G : List Grant) → ProjectionLaws G

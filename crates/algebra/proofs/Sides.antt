@@ -1,40 +1,40 @@
--- A term's two sides, its normal form and its voice.
+-- A principal's two sides, its normal form and its voice.
 use mathlib.Core.Path.{_≡_, refl, ap₂}
 use mathlib.Core.Bool.{_&&_, _||_}
 use mathlib.Core.List.{List, [], List·Memᴰ·not-nil}
 use Prim.Native.Nat.{ℕ}
 use Rattle.model.specs.Sides.{Side, confidentiality, integrity}
-use Rattle.model.specs.Terms.{Term, name, top, bottom, conj, disj, project, NamesBelow, held}
 use Rattle.model.specs.Grants.{Grant, voice}
+use Rattle.algebra.specs.Principals.{Principal, name, top, bottom, conj, disj, project, heldBy, Named}
 use Rattle.algebra.specs.Algebra.{ActsFor, botR, topL, self, proj, projR, conjL₁, conjL₂, conjR, disjL, disjR₁, disjR₂, then, distr, conj-project, disj-project, basis, crossed, grant, Same, onSide, normal, voiceOf, Unprojected, HasNormalForm, VoiceOfNormalForms, VoiceIsHeld}
 use Rattle.algebra.proofs.Principals.{projection-laws}
 
--- equality in the algebra, and its use inside a term
+-- equality in the algebra, and its use inside a principal
 module _ {G : List Grant} where
-  alike : {p : Term} → Same G p p
+  alike : {p : Principal} → Same G p p
   alike = (self, self)
 
-  flipped : {p q : Term} → Same G p q → Same G q p
+  flipped : {p q : Principal} → Same G p q → Same G q p
   flipped e = (e .1, e .0)
 
-  chained : {p q r : Term} → Same G p q → Same G q r → Same G p r
+  chained : {p q r : Principal} → Same G p q → Same G q r → Same G p r
   chained d e = (then (d .0) (e .0), then (e .1) (d .1))
 
-  in-conj : {p q x y : Term} → Same G p x → Same G q y → Same G (conj p q) (conj x y)
+  in-conj : {p q x y : Principal} → Same G p x → Same G q y → Same G (conj p q) (conj x y)
   in-conj d e = (conjR (conjL₁ (d .0)) (conjL₂ (e .0)), conjR (conjL₁ (d .1)) (conjL₂ (e .1)))
 
-  in-disj : {p q x y : Term} → Same G p x → Same G q y → Same G (disj p q) (disj x y)
+  in-disj : {p q x y : Principal} → Same G p x → Same G q y → Same G (disj p q) (disj x y)
   in-disj d e = (disjL (disjR₁ (d .0)) (disjR₂ (e .0)), disjL (disjR₁ (d .1)) (disjR₂ (e .1)))
 
-  in-project : (s : Side) {p q : Term} → Same G p q → Same G (project s p) (project s q)
+  in-project : (s : Side) {p q : Principal} → Same G p q → Same G (project s p) (project s q)
   in-project s e = (proj s (e .0), proj s (e .1))
 
   -- a side of the other side is the weakest
-  off : (s t : Side) (p : Term) → Same G (project s (project t p)) bottom → Same G (project s (project t p)) (project s bottom)
+  off : (s t : Side) (p : Principal) → Same G (project s (project t p)) bottom → Same G (project s (project t p)) (project s bottom)
   off s t p e = chained e (projR s, botR)
 
-  -- on its side a term is the part that `onSide` takes out
-  side-same : (s : Side) (t : Term) → Same G (project s t) (project s (onSide s t))
+  -- on its side a principal is the part that `onSide` takes out
+  side-same : (s : Side) (t : Principal) → Same G (project s t) (project s (onSide s t))
   unfolding onSide
   side-same s (name i) = alike
   side-same s top = alike
@@ -50,11 +50,11 @@ module _ {G : List Grant} where
   side-same integrity (project confidentiality p) = off integrity confidentiality p (projection-laws G .composed confidentiality p)
   side-same integrity (project integrity p) = chained (projection-laws G .idempotent integrity p) (side-same integrity p)
 
-  normal-same : (t : Term) → Same G t (normal t)
+  normal-same : (t : Principal) → Same G t (normal t)
   unfolding normal
   normal-same t = chained (projection-laws G .whole t) (in-conj (side-same confidentiality t) (side-same integrity t))
 
-side-unprojected : (s : Side) (t : Term) → Unprojected (onSide s t)
+side-unprojected : (s : Side) (t : Principal) → Unprojected (onSide s t)
 unfolding onSide Unprojected
 side-unprojected s (name i) = tt
 side-unprojected s top = tt
@@ -66,12 +66,12 @@ side-unprojected confidentiality (project integrity p) = tt
 side-unprojected integrity (project confidentiality p) = tt
 side-unprojected integrity (project integrity p) = side-unprojected integrity p
 
-pub normal-form : (t : Term) → HasNormalForm t
+pub normal-form : (t : Principal) → HasNormalForm t
 normal-form t = record { same = λ G. normal-same t; unprojected = λ s. side-unprojected s t }
 
--- on either side, the part that `onSide` takes out is held where the term is held on that side
-side-held : (s t : Side) (p : Term) (c : ℕ) → held (onSide s p) t c ≡ held p s c
-unfolding onSide held
+-- on either side, the part that `onSide` takes out is held where the principal is held on that side
+side-held : (s t : Side) (p : Principal) (c : ℕ) → heldBy (onSide s p) t c ≡ heldBy p s c
+unfolding onSide heldBy
 side-held s t (name i) c = refl
 side-held s t top c = refl
 side-held s t bottom c = refl
@@ -82,8 +82,8 @@ side-held confidentiality t (project integrity p) c = refl
 side-held integrity t (project confidentiality p) c = refl
 side-held integrity t (project integrity p) c = side-held integrity t p c
 
-pub side-names : (n : ℕ) (s : Side) (t : Term) → NamesBelow n t → NamesBelow n (onSide s t)
-unfolding onSide NamesBelow
+pub side-names : (n : ℕ) (s : Side) (t : Principal) → Named n t → Named n (onSide s t)
+unfolding onSide Named
 side-names n s (name i) l = l
 side-names n s top l = tt
 side-names n s bottom l = tt
@@ -96,12 +96,12 @@ side-names n integrity (project integrity p) l = side-names n integrity p l
 
 -- the voice is held where document 01 says
 pub voice-held : VoiceIsHeld
-unfolding voiceOf voice held
+unfolding voiceOf voice heldBy
 voice-held confidentiality q c = refl
 voice-held integrity q c = ap₂ _&&_ (side-held confidentiality integrity q c) (side-held integrity integrity q c)
 
--- a term without projections is itself on each side
-unprojected-side : (s : Side) (t : Term) → Unprojected t → onSide s t ≡ t
+-- a principal without projections is itself on each side
+unprojected-side : (s : Side) (t : Principal) → Unprojected t → onSide s t ≡ t
 unfolding onSide Unprojected
 unprojected-side s (name i) u = refl
 unprojected-side s top u = refl
@@ -110,12 +110,12 @@ unprojected-side s (conj p q) u = ap₂ conj (unprojected-side s p (u .0)) (unpr
 unprojected-side s (disj p q) u = ap₂ disj (unprojected-side s p (u .0)) (unprojected-side s q (u .1))
 unprojected-side s (project t p) u = absurd u
 
-voice-same : {G : List Grant} (q : Term) {x y : Term} → Same G (onSide confidentiality q) x → Same G (onSide integrity q) y
+voice-same : {G : List Grant} (q : Principal) {x y : Principal} → Same G (onSide confidentiality q) x → Same G (onSide integrity q) y
     → Same G (voiceOf q) (conj (project integrity x) (project integrity y))
 unfolding voiceOf
 voice-same q d e = in-conj (in-project integrity d) (in-project integrity e)
 
-voice-normal : {G : List Grant} (p q : Term) → Unprojected p → Unprojected q
+voice-normal : {G : List Grant} (p q : Principal) → Unprojected p → Unprojected q
     → Same G (voiceOf (conj (project confidentiality p) (project integrity q))) (conj (project integrity p) (project integrity q))
 unfolding onSide
 voice-normal p q u v =
@@ -123,8 +123,8 @@ voice-normal p q u v =
     (rw (unprojected-side confidentiality p u) (conjL₁ self, conjR self botR))
     (rw (unprojected-side integrity q v) (conjL₂ self, conjR botR self))
 
--- what acts for a term acts for it side by side: only the rules' own cases, no coalitions
-side-acts : (s : Side) {p q : Term} → ActsFor [] p q → ActsFor [] (onSide s p) (onSide s q)
+-- what acts for a principal acts for it side by side: only the rules' own cases, no coalitions
+side-acts : (s : Side) {p q : Principal} → ActsFor [] p q → ActsFor [] (onSide s p) (onSide s q)
 unfolding onSide
 side-acts s botR = botR
 side-acts s topL = topL
@@ -161,7 +161,7 @@ side-acts integrity (crossed confidentiality p) = self
 side-acts integrity (crossed integrity p) = self
 side-acts s (grant m) = absurd (List·Memᴰ·not-nil m)
 
-voice-acts : {p q : Term} → ActsFor [] p q → ActsFor [] (voiceOf p) (voiceOf q)
+voice-acts : {p q : Principal} → ActsFor [] p q → ActsFor [] (voiceOf p) (voiceOf q)
 unfolding voiceOf
 voice-acts d = conjR (conjL₁ (proj integrity (side-acts _ d))) (conjL₂ (proj integrity (side-acts _ d)))
 

@@ -1,2 +1,4 @@
+pub mod Principals
+pub mod Meaning
 pub mod Algebra
 pub mod Rules

@@ -6,7 +6,7 @@ use mathlib.Core.Logic.{_↔_}
 use mathlib.Core.Bool.{true}
 use mathlib.Core.List.{List, List·Memᴰ}
 use Rattle.model.specs.Sides.{Side}
-use Rattle.model.specs.Terms.{Term, conj, disj, project, NamesBelow}
+use Rattle.model.specs.Terms.{Term, conj, disj, project, NamesBelow, held}
 use Rattle.model.specs.Grants.{Grant, Under, actsStatically, counting}
 use Rattle.model.specs.Ledgers.{Ledger}
 use Rattle.model.specs.Answers.{Yes}
@@ -32,14 +32,14 @@ pub data Derives (n : ℕ) (G : List Grant) : Term → Term → Type 0 where
 
 -- What is derived is a yes: on each side every sound coalition that holds p holds q.
 abbrev pub RulesAreSound : Type 0
-RulesAreSound = (n : ℕ) (G : List Grant) (p q : Term) → Derives n G p q → (s : Side) → Carries n G s p q
+RulesAreSound = (n : ℕ) (G : List Grant) (p q : Term) → Derives n G p q → (s : Side) → Carries n G s (held p) (held q)
 
 -- Every yes is derived.
 abbrev pub RulesAreComplete : Type 0
 RulesAreComplete =
     (n : ℕ) (G : List Grant) (p q : Term)
     → GrantsBelow n G → NamesBelow n p → NamesBelow n q
-    → ((s : Side) → Carries n G s p q) → Derives n G p q
+    → ((s : Side) → Carries n G s (held p) (held q)) → Derives n G p q
 
 -- So a yes, on the bytes of a question, is what the rules derive from the grants that count under the label.
 abbrev pub YesIsDerived : Type 0

@@ -1,7 +1,12 @@
 // FLAM's principal algebra and document 01's coalitions: what the one derives is what the other decides.
 pub mod rules;
 
-ghost use Rattle.algebra.specs.Algebra.{ActsForByCoalitions, FlowsToByCoalitions, StaticIsActsFor, VisibleIsFlowsTo, SpokenIsActsForVoice, NormalForms, VoiceOfNormalForms, VoiceIsHeld, DefinitionsOneAndTwo, YesIsActsFor, YesIsFlowsTo};
+ghost use Rattle.algebra.specs.Algebra.{HeldWhereMeant, ActsForByCoalitions, FlowsToByCoalitions, StaticIsActsFor, VisibleIsFlowsTo, SpokenIsActsForVoice, NormalForms, VoiceOfNormalForms, VoiceIsHeld, DefinitionsOneAndTwo, YesIsActsFor, YesIsFlowsTo};
+
+// FLAM has no quorum: a term is held exactly where the principal that it means is held.
+pub fn a_term_is_held_where_its_meaning_is()
+    ensures { λ _. ⌜ HeldWhereMeant ⌝ }
+{}
 
 // Sound and complete: p acts for q in the algebra exactly if on each side every sound coalition that holds p holds q.
 pub fn acts_for_is_decided_by_coalitions()
@@ -28,7 +33,7 @@ pub fn spoken_is_acting_for_the_voice()
     ensures { λ _. ⌜ SpokenIsActsForVoice ⌝ }
 {}
 
-// Every term equals its normal form.
+// Every principal equals its normal form, and so what any term means does.
 pub fn every_term_has_a_normal_form()
     ensures { λ _. ⌜ NormalForms ⌝ }
 {}

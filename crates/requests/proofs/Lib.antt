@@ -3,4 +3,5 @@ pub mod Fewest
 pub mod Language
 pub mod Dating
 pub mod Stopping
+pub mod Places
 pub mod Tried

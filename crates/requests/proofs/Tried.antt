@@ -2,18 +2,19 @@
 use mathlib.Core.Path.{refl}
 use Rattle.model.specs.Sides.{confidentiality, integrity}
 use Rattle.model.specs.Bytes.{zeros, same, pieces, joined}
-use Rattle.model.specs.Coalitions.{member, every, within, lowest}
-use Rattle.model.specs.Terms.{codes, codeOf, readWithin, readTerm, held}
+use Rattle.model.specs.Coalitions.{member, every, within, properSubset, lowest, those}
+use Rattle.model.specs.Terms.{count, codes, codeOf, readAll, readWithin, readTerm, held}
 use Rattle.model.specs.Dates.{leap, daysIn, realDate, nextDay, daysLater, addDays, dateOrNone, inOrder, inDays}
 use Rattle.model.specs.Grants.{countsUnder, visible, voice, spoken, heard, ofGrant, chosen, sound}
 use Rattle.model.specs.Ledgers.{readBook, weighted, checkOf, checked, grantBlocks, allChecked, headerForm, grantForm, readTerms, readDays, readGrant, readGrants, readLedger, withCheck, ledgerOf}
 use Rattle.model.specs.Questions.{refutes, judge, soundUnder, actsForUnder, ask, actsFor}
 use Rattle.model.specs.Testing.{test, testUnder}
 use Rattle.model.specs.Extracts.{extractOf, extract}
+use Rattle.model.specs.ShortForms.{minimal, pairs, listed, shortForm, shortFormOf}
 use Rattle.model.specs.Derivations.{ruleOf, stepForm, readLeft, readRight, meets, checkStep, checkSteps, checkDerivation}
-use Rattle.model.specs.Texts.{flat, term, rank, fewest}
+use Rattle.model.specs.Texts.{places, flat, term, rank, fewest}
 use Rattle.model.specs.Notation.{lastOf, readDeep, textCodes, termText}
-use Rattle.requests.specs.Cases.{NotationCases, blockOf, dated, DayCases, grantBlockOf, fourGrants, twoGrants, TestCases}
+use Rattle.requests.specs.Cases.{NotationCases, blockOf, dated, DayCases, grantBlockOf, fourGrants, twoGrants, TestCases, longTerm, QuorumCases}
 
 pub notation-cases : NotationCases
 unfolding codes codeOf readWithin readTerm flat term rank fewest lastOf readDeep textCodes termText
@@ -93,4 +94,48 @@ test-cases = record {
   change-1 = refl;
   change-2 = refl;
   change-3 = refl;
+}
+
+pub quorum-cases : QuorumCases
+unfolding longTerm count codes codeOf readAll readWithin readTerm member held every properSubset those minimal pairs listed shortForm shortFormOf places flat term rank fewest lastOf readDeep textCodes termText
+quorum-cases = record {
+  no-k = refl;
+  no-m = refl;
+  k-not-judged = refl;
+  no-m-inside = refl;
+  no-part = refl;
+  k-zero = refl;
+  k-over-m = refl;
+  m-thirteen = refl;
+  first-part-first = refl;
+  a-code-left = refl;
+  read-1 = refl;
+  read-2 = refl;
+  read-3 = refl;
+  too-few-places = refl;
+  leading-zero-of-k = refl;
+  leading-zero-of-m = refl;
+  k-over-m-places = refl;
+  empty-place = refl;
+  zero-places-asked = refl;
+  thirteen-places = refl;
+  no-numbers = refl;
+  no-places = refl;
+  write-1 = refl;
+  write-2 = refl;
+  write-3 = refl;
+  equal-parts = elim [ confidentiality ↦ refl | integrity ↦ refl ];
+  other-part = elim [ confidentiality ↦ refl | integrity ↦ refl ];
+  more-than-k = elim [ confidentiality ↦ refl | integrity ↦ refl ];
+  one-part-once = elim [ confidentiality ↦ refl | integrity ↦ refl ];
+  see-none = refl;
+  see-first = refl;
+  change-first = refl;
+  change-second = refl;
+  short-form = refl;
+  codes-64 = refl;
+  codes-65 = refl;
+  codes-64-read = refl;
+  codes-65-read = refl;
+  longest = refl;
 }

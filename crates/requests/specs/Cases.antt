@@ -1,18 +1,20 @@
 -- Document 02: the cases of the requests, on their own bytes, characters and numbers. Assumes nothing: these are the statements.
 use mathlib.Core.Path.{_≡_}
 use Prim.Native.Nat.{ℕ, _-_, _/_, _%_}
-use mathlib.Core.Bool.{true, false}
+use mathlib.Core.Bool.{Bool, true, false}
 use mathlib.Core.List.{List, [], _∷_, _++_}
 use lib.ListN.{length, replicate}
 use Rattle.model.specs.Sides.{Side, confidentiality, integrity}
 use Rattle.model.specs.Readings.{Reading, accepted, refused, andThen}
 use Rattle.model.specs.Bytes.{field, bigEndian}
+use Rattle.model.specs.Terms.{readTerm, held}
 use Rattle.model.specs.Dates.{realDate, addDays}
 use Rattle.model.specs.Ledgers.{readLedger, readBook, withCheck, ledgerOf}
 use Rattle.model.specs.Answers.{Answer, Yes, No, Refused, RefusedAt}
 use Rattle.model.specs.Questions.{actsFor}
 use Rattle.model.specs.Testing.{Tested, testUnder}
 use Rattle.model.specs.Extracts.{extract}
+use Rattle.model.specs.ShortForms.{shortFormOf}
 use Rattle.model.specs.Derivations.{checkDerivation}
 use Rattle.model.specs.Notation.{textCodes, termText}
 use Rattle.demands.specs.Cases.{code1, code2}
@@ -171,3 +173,83 @@ pub record TestCases : Type 0 where
   pub change-1 : testWith (twoGrants (0x20 ∷ [])) integrity 1 ≡ accepted (brokenAfter 1)
   pub change-2 : testWith (twoGrants (0x20 ∷ [])) integrity 2 ≡ accepted (brokenAfter 2)
   pub change-3 : testWith (twoGrants (0x20 ∷ [])) integrity 3 ≡ accepted (brokenAfter 2)
+
+-- ---- K4: quorums
+
+-- whether the coalition holds the term of three names on the side
+abbrev pub readAndHeld : List ℕ → Side → ℕ → Reading Bool
+readAndHeld bytes s c = andThen (readTerm 3 bytes) (λ t. accepted (held t s c))
+
+-- ten of eleven, of which four are quorums: ten of eleven a, twice, and ten of ten a, twice
+unfoldable pub longTerm : List ℕ
+longTerm = 0x32 ∷ 0x0A ∷ 0x0B ∷ 0x32 ∷ 0x0A ∷ 0x0B ∷ replicate 11 0 ++ 0x32 ∷ 0x0A ∷ 0x0B ∷ replicate 11 0
+    ++ 0x32 ∷ 0x0A ∷ 0x0A ∷ replicate 10 0 ++ 0x32 ∷ 0x0A ∷ 0x0A ∷ replicate 17 0
+
+-- of three names
+pub record QuorumCases : Type 0 where
+  -- 32, 32 00, 32 FF and 30 32 00 have no m, and k is not judged yet
+  pub no-k : readTerm 3 (0x32 ∷ []) ≡ refused 3
+  pub no-m : readTerm 3 (0x32 ∷ 0x00 ∷ []) ≡ refused 3
+  pub k-not-judged : readTerm 3 (0x32 ∷ 0xFF ∷ []) ≡ refused 3
+  pub no-m-inside : readTerm 3 (0x30 ∷ 0x32 ∷ 0x00 ∷ []) ≡ refused 3
+  -- 32 01 01 has no part
+  pub no-part : readTerm 3 (0x32 ∷ 0x01 ∷ 0x01 ∷ []) ≡ refused 3
+  -- k 0, k over m, m 13
+  pub k-zero : readTerm 3 (0x32 ∷ 0x00 ∷ 0x05 ∷ []) ≡ refused 2
+  pub k-over-m : readTerm 3 (0x32 ∷ 0x03 ∷ 0x02 ∷ 0x00 ∷ 0x01 ∷ []) ≡ refused 2
+  pub m-thirteen : readTerm 3 (0x32 ∷ 0x01 ∷ 0x0D ∷ []) ≡ refused 2
+  -- the first part is no term, and the second is missing
+  pub first-part-first : readTerm 3 (0x32 ∷ 0x01 ∷ 0x02 ∷ 0x0C ∷ []) ≡ refused 2
+  -- a code after the last part
+  pub a-code-left : readTerm 3 (0x32 ∷ 0x01 ∷ 0x02 ∷ 0x00 ∷ 0x01 ∷ 0x32 ∷ []) ≡ refused 4
+  -- 2:3(a|b,c&a>,_)<&b
+  pub read-1 : textCodes 3 (0x32 ∷ 0x3A ∷ 0x33 ∷ 0x28 ∷ 0x61 ∷ 0x7C ∷ 0x62 ∷ 0x2C ∷ 0x63 ∷ 0x26 ∷ 0x61 ∷ 0x3E ∷ 0x2C ∷ 0x5F ∷ 0x29 ∷ 0x3C ∷ 0x26 ∷ 0x62 ∷ []) 64 ≡ accepted (0x30 ∷ 0x41 ∷ 0x32 ∷ 0x02 ∷ 0x03 ∷ 0x31 ∷ 0x00 ∷ 0x01 ∷ 0x30 ∷ 0x02 ∷ 0x40 ∷ 0x00 ∷ 0x21 ∷ 0x01 ∷ [])
+  -- 1:1(a)
+  pub read-2 : textCodes 3 (0x31 ∷ 0x3A ∷ 0x31 ∷ 0x28 ∷ 0x61 ∷ 0x29 ∷ []) 64 ≡ accepted (0x32 ∷ 0x01 ∷ 0x01 ∷ 0x00 ∷ [])
+  -- 1:2(2:2(a,b),c)
+  pub read-3 : textCodes 3 (0x31 ∷ 0x3A ∷ 0x32 ∷ 0x28 ∷ 0x32 ∷ 0x3A ∷ 0x32 ∷ 0x28 ∷ 0x61 ∷ 0x2C ∷ 0x62 ∷ 0x29 ∷ 0x2C ∷ 0x63 ∷ 0x29 ∷ []) 64 ≡ accepted (0x32 ∷ 0x01 ∷ 0x02 ∷ 0x32 ∷ 0x02 ∷ 0x02 ∷ 0x00 ∷ 0x01 ∷ 0x02 ∷ [])
+  -- 2:3(a,b)
+  pub too-few-places : textCodes 3 (0x32 ∷ 0x3A ∷ 0x33 ∷ 0x28 ∷ 0x61 ∷ 0x2C ∷ 0x62 ∷ 0x29 ∷ []) 64 ≡ refused 82
+  -- 02:3(a,b,c)
+  pub leading-zero-of-k : textCodes 3 (0x30 ∷ 0x32 ∷ 0x3A ∷ 0x33 ∷ 0x28 ∷ 0x61 ∷ 0x2C ∷ 0x62 ∷ 0x2C ∷ 0x63 ∷ 0x29 ∷ []) 64 ≡ refused 82
+  -- 2:03(a,b,c)
+  pub leading-zero-of-m : textCodes 3 (0x32 ∷ 0x3A ∷ 0x30 ∷ 0x33 ∷ 0x28 ∷ 0x61 ∷ 0x2C ∷ 0x62 ∷ 0x2C ∷ 0x63 ∷ 0x29 ∷ []) 64 ≡ refused 82
+  -- 4:3(a,b,c)
+  pub k-over-m-places : textCodes 3 (0x34 ∷ 0x3A ∷ 0x33 ∷ 0x28 ∷ 0x61 ∷ 0x2C ∷ 0x62 ∷ 0x2C ∷ 0x63 ∷ 0x29 ∷ []) 64 ≡ refused 82
+  -- 2:2(a,b,)
+  pub empty-place : textCodes 3 (0x32 ∷ 0x3A ∷ 0x32 ∷ 0x28 ∷ 0x61 ∷ 0x2C ∷ 0x62 ∷ 0x2C ∷ 0x29 ∷ []) 64 ≡ refused 82
+  -- 0:1(a)
+  pub zero-places-asked : textCodes 3 (0x30 ∷ 0x3A ∷ 0x31 ∷ 0x28 ∷ 0x61 ∷ 0x29 ∷ []) 64 ≡ refused 82
+  -- 1:13(a,..,a), with 13 places
+  pub thirteen-places : textCodes 3 (0x31 ∷ 0x3A ∷ 0x31 ∷ 0x33 ∷ 0x28 ∷ 0x61 ∷ 0x2C ∷ 0x61 ∷ 0x2C ∷ 0x61 ∷ 0x2C ∷ 0x61 ∷ 0x2C ∷ 0x61 ∷ 0x2C ∷ 0x61 ∷ 0x2C ∷ 0x61 ∷ 0x2C ∷ 0x61 ∷ 0x2C ∷ 0x61 ∷ 0x2C ∷ 0x61 ∷ 0x2C ∷ 0x61 ∷ 0x2C ∷ 0x61 ∷ 0x2C ∷ 0x61 ∷ 0x29 ∷ []) 64 ≡ refused 82
+  -- (a,b)
+  pub no-numbers : textCodes 3 (0x28 ∷ 0x61 ∷ 0x2C ∷ 0x62 ∷ 0x29 ∷ []) 64 ≡ refused 82
+  -- 2:3
+  pub no-places : textCodes 3 (0x32 ∷ 0x3A ∷ 0x33 ∷ []) 64 ≡ refused 82
+  -- 2:3(a|b,c>,a&_)>
+  pub write-1 : termText 3 (0x40 ∷ 0x32 ∷ 0x02 ∷ 0x03 ∷ 0x31 ∷ 0x00 ∷ 0x01 ∷ 0x40 ∷ 0x02 ∷ 0x30 ∷ 0x00 ∷ 0x21 ∷ []) 256 ≡ accepted (0x32 ∷ 0x3A ∷ 0x33 ∷ 0x28 ∷ 0x61 ∷ 0x7C ∷ 0x62 ∷ 0x2C ∷ 0x63 ∷ 0x3E ∷ 0x2C ∷ 0x61 ∷ 0x26 ∷ 0x5F ∷ 0x29 ∷ 0x3E ∷ [])
+  -- 1:1(a)
+  pub write-2 : termText 3 (0x32 ∷ 0x01 ∷ 0x01 ∷ 0x00 ∷ []) 256 ≡ accepted (0x31 ∷ 0x3A ∷ 0x31 ∷ 0x28 ∷ 0x61 ∷ 0x29 ∷ [])
+  -- 2:2(a|b,c)&1:2(a,b|c)
+  pub write-3 : termText 3 (0x30 ∷ 0x32 ∷ 0x02 ∷ 0x02 ∷ 0x31 ∷ 0x00 ∷ 0x01 ∷ 0x02 ∷ 0x32 ∷ 0x01 ∷ 0x02 ∷ 0x00 ∷ 0x31 ∷ 0x01 ∷ 0x02 ∷ []) 256 ≡ accepted (0x32 ∷ 0x3A ∷ 0x32 ∷ 0x28 ∷ 0x61 ∷ 0x7C ∷ 0x62 ∷ 0x2C ∷ 0x63 ∷ 0x29 ∷ 0x26 ∷ 0x31 ∷ 0x3A ∷ 0x32 ∷ 0x28 ∷ 0x61 ∷ 0x2C ∷ 0x62 ∷ 0x7C ∷ 0x63 ∷ 0x29 ∷ [])
+  -- 2:3(a,a,b) is held by {a} and not by {b}: parts count by place
+  pub equal-parts : (s : Side) → readAndHeld (0x32 ∷ 0x02 ∷ 0x03 ∷ 0x00 ∷ 0x00 ∷ 0x01 ∷ []) s 1 ≡ accepted true
+  pub other-part : (s : Side) → readAndHeld (0x32 ∷ 0x02 ∷ 0x03 ∷ 0x00 ∷ 0x00 ∷ 0x01 ∷ []) s 2 ≡ accepted false
+  -- 1:2(a,b) is held by {a, b}
+  pub more-than-k : (s : Side) → readAndHeld (0x32 ∷ 0x01 ∷ 0x02 ∷ 0x00 ∷ 0x01 ∷ []) s 3 ≡ accepted true
+  -- 2:2(a,b) is not held by {a}
+  pub one-part-once : (s : Side) → readAndHeld (0x32 ∷ 0x02 ∷ 0x02 ∷ 0x00 ∷ 0x01 ∷ []) s 1 ≡ accepted false
+  -- 2:2(a>,b<): on the see side a is asked for, on the change side b; the counts are not pooled
+  pub see-none : readAndHeld (0x32 ∷ 0x02 ∷ 0x02 ∷ 0x40 ∷ 0x00 ∷ 0x41 ∷ 0x01 ∷ []) confidentiality 0 ≡ accepted false
+  pub see-first : readAndHeld (0x32 ∷ 0x02 ∷ 0x02 ∷ 0x40 ∷ 0x00 ∷ 0x41 ∷ 0x01 ∷ []) confidentiality 1 ≡ accepted true
+  pub change-first : readAndHeld (0x32 ∷ 0x02 ∷ 0x02 ∷ 0x40 ∷ 0x00 ∷ 0x41 ∷ 0x01 ∷ []) integrity 1 ≡ accepted false
+  pub change-second : readAndHeld (0x32 ∷ 0x02 ∷ 0x02 ∷ 0x40 ∷ 0x00 ∷ 0x41 ∷ 0x01 ∷ []) integrity 2 ≡ accepted true
+  -- three minimal coalitions a side: 3, 5 and 6
+  pub short-form : shortFormOf 3 (0x32 ∷ 0x02 ∷ 0x03 ∷ 0x00 ∷ 0x01 ∷ 0x02 ∷ []) 3700 ≡ accepted (0 ∷ 3 ∷ 0 ∷ 3 ∷ 0 ∷ 5 ∷ 0 ∷ 6 ∷ 0 ∷ 3 ∷ 0 ∷ 3 ∷ 0 ∷ 5 ∷ 0 ∷ 6 ∷ [])
+  -- k and m count towards the 64 codes: 60 or 61 times 40 before 32 01 01 00, 60 or 61 times > after 1:1(a)
+  pub codes-64 : readAndHeld (replicate 60 0x40 ++ 0x32 ∷ 0x01 ∷ 0x01 ∷ 0x00 ∷ []) confidentiality 1 ≡ accepted true
+  pub codes-65 : readTerm 3 (replicate 61 0x40 ++ 0x32 ∷ 0x01 ∷ 0x01 ∷ 0x00 ∷ []) ≡ refused 1
+  pub codes-64-read : textCodes 3 ((0x31 ∷ 0x3A ∷ 0x31 ∷ 0x28 ∷ 0x61 ∷ 0x29 ∷ []) ++ replicate 60 0x3E) 64 ≡ accepted (replicate 60 0x40 ++ 0x32 ∷ 0x01 ∷ 0x01 ∷ 0x00 ∷ [])
+  pub codes-65-read : textCodes 3 ((0x31 ∷ 0x3A ∷ 0x31 ∷ 0x28 ∷ 0x61 ∷ 0x29 ∷ []) ++ replicate 61 0x3E) 64 ≡ refused 83
+  -- 64 codes in 132 characters
+  pub longest : andThen (termText 3 longTerm 256) (λ text. accepted (length text)) ≡ accepted 132

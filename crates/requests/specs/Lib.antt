@@ -1,4 +1,5 @@
 pub mod Notation
 pub mod Days
 pub mod Testing
+pub mod Quorums
 pub mod Cases

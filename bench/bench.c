@@ -46,10 +46,12 @@ static unsigned engines_with(unsigned operation)
     return operation < C_OPERATIONS ? ENGINES : EARLIER;
 }
 
-/* How many of these answer it: an archive of before version 3 doesn't know days. */
+/* How many of these answer it: an archive of before version 3 doesn't know days, one of before 4 no quorums. */
 static unsigned engines_for(const struct call *call)
 {
-    return BEFORE_VERSION < 3 && is_dated(&call->ledger) ? EARLIER : engines_with(call->operation);
+    if ((BEFORE_VERSION < 3 && is_dated(&call->ledger)) || (BEFORE_VERSION < 4 && has_quorum(call)))
+        return EARLIER;
+    return engines_with(call->operation);
 }
 
 /* These engines gave the same number, and it is as wanted; otherwise the run ends. */
@@ -88,9 +90,10 @@ static void expect_counting(struct call *call, unsigned grant, bool counts)
     call->derivation.length = 0;
     add_step(&call->derivation, 2, 0, 0, grant, &p, &q);
     struct request request = request_of(call, buffer);
-    for (unsigned e = 0; e < ENGINES; e++)
+    unsigned engine_count = engines_for(call);
+    for (unsigned e = 0; e < engine_count; e++)
         answers[e] = perform(engines[e], &request);
-    expect("which grants count", answers, ENGINES, answers[0] == wanted);
+    expect("which grants count", answers, engine_count, answers[0] == wanted);
 }
 
 /* How many grants of a job count: just those that are meant to. */
@@ -193,7 +196,7 @@ static void print_head(const char *what, unsigned engine_count)
 }
 
 /* Measures the first `count` calls in turn, all wanted to give this kind of answer. An engine that has the call but
- * doesn't know days gets a dash. */
+ * doesn't answer it gets a dash. */
 static void print_line(const char *what, unsigned count, unsigned kind, unsigned n)
 {
     struct measured measured[ENGINES];
@@ -233,11 +236,26 @@ static const struct row {
     {"test, sound", make_sound_test, YES},
 };
 
+/* Of twelve names; the first four without grants. */
+static const struct row quorum_rows[] = {
+    {"acts-for, 6:12 for 5:12", make_six_of_twelve, YES},
+    {"acts-for, 2:3 of 2:3s", make_nested_quorums, YES},
+    {"short form, 6:12", make_short_six_of_twelve, YES},
+    {"short form, 2:3 of 2:3s", make_short_nested_quorums, YES},
+    {"acts-for, static, quorums", make_quorum_static_yes, YES},
+    {"acts-for, granted, quorums", make_quorum_granted_yes, YES},
+    {"acts-for, no, quorums", make_quorum_late_no, NO},
+    {"extract, quorums", make_quorum_extract, YES},
+    {"derivation, quorums", make_quorum_derivation, YES},
+};
+
 static const struct row notation_rows[] = {
     {"read 38 characters", make_usual_text, YES},
     {"read 256, 64 codes", make_bracketed_text, YES},
     {"read 256, refused by 83", make_bare_text, REFUSED},
     {"write 64 codes", make_written_term, YES},
+    {"read 105, quorums", make_text_of_quorums, YES},
+    {"write 59 codes, quorums", make_written_quorums, YES},
 };
 
 static const struct row date_rows[] = {
@@ -275,6 +293,16 @@ static void print_job(struct job job)
     print_ledger("early", make_early_extract, job);
     print_head("", ENGINES);
     print_rows(rows, sizeof rows / sizeof *rows, job);
+}
+
+static const struct job quorum_job = {NAMES, GRANTS, 0};
+
+static void print_quorums(void)
+{
+    printf("%u names, %u grants, quorums\n", quorum_job.n, quorum_job.grants);
+    print_ledger("quorums", make_quorum_extract, quorum_job);
+    print_head("", ENGINES);
+    print_rows(quorum_rows, sizeof quorum_rows / sizeof *quorum_rows, quorum_job);
 }
 
 static void print_growth_line(struct job job, const char *unit, unsigned count)
@@ -325,15 +353,15 @@ __attribute__((noipa)) static void once(const struct engine *engine)
 }
 
 /* Each row once, by the library and by the archive of before if it has the call; prints how many of these it has. */
-static void run_rows_once(struct job job)
+static void run_rows_once(const struct row *row, unsigned count, struct job job)
 {
-    for (unsigned i = 0; i < sizeof rows / sizeof *rows; i++) {
-        make_calls(rows[i].make, job);
+    for (const struct row *end = row + count; row < end; row++) {
+        make_calls(row->make, job);
         unsigned engine_count = engines_for(&calls[0]);
         once(engines[LIBRARY]);
         for (unsigned e = EARLIER; e < engine_count; e++)
             once(engines[e]);
-        printf("%u %u names: %s\n", engine_count - EARLIER, job.n, rows[i].what);
+        printf("%u %u names: %s\n", engine_count - EARLIER, job.n, row->what);
     }
 }
 
@@ -341,13 +369,15 @@ int main(int argc, char **argv)
 {
     if (argc > 1 && strcmp(argv[1], "instructions") == 0) {
         for (unsigned i = 0; i < SIZES; i++)
-            run_rows_once(sizes[i]);
+            run_rows_once(rows, sizeof rows / sizeof *rows, sizes[i]);
+        run_rows_once(quorum_rows, sizeof quorum_rows / sizeof *quorum_rows, quorum_job);
         return 0;
     }
     for (unsigned e = EARLIER; e < ENGINES; e++)
         printf("before: the archive of revision %s\n", engines[e]->name);
     for (unsigned i = 0; i < SIZES; i++)
         print_job(sizes[i]);
+    print_quorums();
     print_growth_with_grants();
     print_growth_with_names();
     print_notation();

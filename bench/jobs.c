@@ -77,6 +77,32 @@ static struct term mixed_tree(struct source *source, const unsigned *names, unsi
     return joined(BOTH, &a, &b);
 }
 
+static void put_quorum_of(struct term *term, unsigned k, const unsigned *names, unsigned count)
+{
+    put_quorum(term, k, count);
+    for (unsigned i = 0; i < count; i++)
+        put_code(term, names[i]);
+}
+
+/* Any k of these names. */
+static struct term any_of(unsigned k, const unsigned *names, unsigned count)
+{
+    struct term term = {0};
+    put_quorum_of(&term, k, names, count);
+    return term;
+}
+
+enum { NESTED = 9 }; /* names of a 2:3 of 2:3s */
+
+static struct term two_of_threes(const unsigned *names)
+{
+    struct term term = {0};
+    put_quorum(&term, 2, 3);
+    for (unsigned i = 0; i < NESTED; i += 3)
+        put_quorum_of(&term, 2, names + i, 3);
+    return term;
+}
+
 /* ---- Grants ---- */
 
 static void add_counting(struct ledger *ledger, const struct term *p, const struct term *q)
@@ -144,6 +170,17 @@ static void add_any_for_all(struct source *source, struct ledger *ledger, struct
     add_counting(ledger, &p, &q);
 }
 
+static void add_quorums(struct source *source, struct ledger *ledger, struct job job)
+{
+    unsigned names[NAMES];
+    shuffle(source, names, 0, job.n);
+    struct term nested = two_of_threes(names), six = any_of(6, names, job.n), five = any_of(5, names, NESTED);
+    if (grant_count(ledger) % 2)
+        add_counting(ledger, &nested, &five);
+    else
+        add_counting(ledger, &six, &nested);
+}
+
 /* ---- Ledgers ---- */
 
 static void start_call(struct call *call, struct job job)
@@ -200,6 +237,16 @@ static void start_early(struct call *call, struct job job, unsigned seed)
         shuffle(&source, names, 0, job.n);
         add_breaking(&source, &call->ledger, job, names);
     }
+}
+
+/* A call on a ledger of quorums; gives the source to go on with. */
+static struct source start_quorums(struct call *call, struct job job, unsigned seed)
+{
+    struct source source = {seed};
+    start_call(call, job);
+    for (unsigned i = 0; i < job.grants; i++)
+        add_quorums(&source, &call->ledger, job);
+    return source;
 }
 
 /* The coalition of all names in term 0 or 1 of a grant. */
@@ -347,12 +394,23 @@ static void add_eight_steps(struct derivation *d, const struct ledger *ledger, c
     add_step(d, 5, k + 5, k + 5, 0, &twice, &either);
 }
 
-void make_derivation(struct call *call, struct job job, unsigned seed)
+static void set_derivation(struct call *call, struct job job)
 {
-    start_breaking(call, job, seed);
     call->operation = DERIVATION;
     for (unsigned i = 0; i < STEPS / 8; i++)
         add_eight_steps(&call->derivation, &call->ledger, &job, i % job.grants);
+}
+
+void make_derivation(struct call *call, struct job job, unsigned seed)
+{
+    start_breaking(call, job, seed);
+    set_derivation(call, job);
+}
+
+static void set_short_form(struct call *call)
+{
+    call->operation = SHORT_FORM;
+    call->buffer_length = BUFFER_ROOM; /* enough for earlier archives, which ask for more, too */
 }
 
 void make_short_form(struct call *call, struct job job, unsigned seed)
@@ -361,9 +419,8 @@ void make_short_form(struct call *call, struct job job, unsigned seed)
     unsigned names[NAMES];
     start_call(call, job);
     shuffle(&source, names, 0, job.n);
-    call->operation = SHORT_FORM;
     call->p = mixed_tree(&source, names, job.n, job.codes);
-    call->buffer_length = BUFFER_ROOM; /* enough for earlier archives, which ask for more, too */
+    set_short_form(call);
 }
 
 /* ---- Early ledgers ---- */
@@ -399,6 +456,88 @@ void make_sound_test(struct call *call, struct job job, unsigned seed)
 {
     start_early(call, job, seed);
     set_test(call, 0);
+}
+
+/* ---- Quorums ---- */
+
+/* 6:12 for 5:12, of the names in other orders. */
+static void ask_six_of_twelve(struct source *source, struct call *call, struct job job)
+{
+    unsigned names[NAMES];
+    shuffle(source, names, 0, job.n);
+    call->p = any_of(6, names, job.n);
+    shuffle(source, names, 0, job.n);
+    call->q = any_of(5, names, job.n);
+    call->operation = ACTS_FOR;
+}
+
+void make_six_of_twelve(struct call *call, struct job job, unsigned seed)
+{
+    struct source source = {seed};
+    start_call(call, job);
+    ask_six_of_twelve(&source, call, job);
+}
+
+void make_nested_quorums(struct call *call, struct job job, unsigned seed)
+{
+    struct source source = {seed};
+    unsigned names[NAMES];
+    start_call(call, job);
+    shuffle(&source, names, 0, job.n);
+    call->p = two_of_threes(names);
+    call->q = any_of(4, names, NESTED);
+    call->operation = ACTS_FOR;
+}
+
+void make_short_six_of_twelve(struct call *call, struct job job, unsigned seed)
+{
+    make_six_of_twelve(call, job, seed);
+    set_short_form(call);
+}
+
+void make_short_nested_quorums(struct call *call, struct job job, unsigned seed)
+{
+    make_nested_quorums(call, job, seed);
+    set_short_form(call);
+}
+
+void make_quorum_static_yes(struct call *call, struct job job, unsigned seed)
+{
+    struct source source = start_quorums(call, job, seed);
+    ask_six_of_twelve(&source, call, job);
+}
+
+void make_quorum_granted_yes(struct call *call, struct job job, unsigned seed)
+{
+    start_quorums(call, job, seed);
+    ask_first_grant(call);
+}
+
+/* p is all of the names from 6 up. q is held always on the see side and never on the change side: all of eleven names
+ * and the strongest. */
+void make_quorum_late_no(struct call *call, struct job job, unsigned seed)
+{
+    struct source source = start_quorums(call, job, seed);
+    unsigned high[NAMES], never[NAMES];
+    shuffle(&source, high, 6, 6);
+    shuffle(&source, never, 0, job.n);
+    never[below(&source, job.n)] = STRONGEST;
+    struct term nobody = any_of(job.n, never, job.n);
+    call->operation = ACTS_FOR;
+    call->p = any_of(6, high, 6);
+    call->q = prefixed(CHANGE_OF, &nobody);
+}
+
+void make_quorum_extract(struct call *call, struct job job, unsigned seed)
+{
+    start_quorums(call, job, seed);
+    set_extract(call);
+}
+
+void make_quorum_derivation(struct call *call, struct job job, unsigned seed)
+{
+    start_quorums(call, job, seed);
+    set_derivation(call, job);
 }
 
 /* ---- Days ---- */
@@ -519,4 +658,22 @@ void make_written_term(struct call *call, struct job job, unsigned seed)
     shuffle(&source, names, 0, job.n);
     struct term part = mixed_tree(&source, names, job.n, CODES - 1);
     call->p = prefixed(SEE_OF, &part);
+}
+
+void make_text_of_quorums(struct call *call, struct job job, unsigned seed)
+{
+    struct source source = start_notation(call, READ_TEXT, job, seed);
+    for (unsigned i = 0; i < 2; i++)
+        put_text(&source, call, "2:3(2:3(n,n,n),2:3(n,n,n),2:3(n,n,n))j");
+    put_text(&source, call, "6:12(n,n,n,n,n,n,n,n,n,n,n,n)");
+}
+
+void make_written_quorums(struct call *call, struct job job, unsigned seed)
+{
+    struct source source = start_notation(call, WRITE_TERM, job, seed);
+    unsigned names[NAMES];
+    shuffle(&source, names, 0, job.n);
+    struct term nested = two_of_threes(names), twice = joined(EITHER, &nested, &nested);
+    struct term six = any_of(6, names, job.n);
+    call->p = joined(BOTH, &six, &twice);
 }

@@ -1,5 +1,5 @@
 /*
- * A workflow program: it makes two ledgers, asks about them on two days, and prints the answers for a person.
+ * A workflow program: it makes three ledgers, asks about them on two days, and prints the answers for a person.
  *
  *     make demo
  *     cc examples/workflow.c $(PKG_CONFIG_PATH=build pkg-config --cflags --libs rights)
@@ -101,13 +101,28 @@ static void print_coalition(unsigned coalition)
 
 static const uint8_t *print_codes(const uint8_t *codes);
 
-/* Prints the term that starts at codes in brackets; two parts have their own. */
+/* Prints the term that starts at codes in brackets; one of several parts has its own. */
 static const uint8_t *print_in_brackets(const uint8_t *codes)
 {
-    if (*codes == RIGHTS_BOTH || *codes == RIGHTS_EITHER)
+    if (*codes == RIGHTS_BOTH || *codes == RIGHTS_EITHER || *codes == RIGHTS_QUORUM)
         return print_codes(codes);
     putchar('(');
     codes = print_codes(codes);
+    putchar(')');
+    return codes;
+}
+
+/* Prints a quorum behind its code: (2 of A, B, C). */
+static const uint8_t *print_quorum(const uint8_t *codes)
+{
+    unsigned needed = *codes++, parts = *codes++;
+    const char *before = " of ";
+    printf("(%u", needed);
+    for (; parts > 0; parts--) {
+        fputs(before, stdout);
+        codes = print_codes(codes);
+        before = ", ";
+    }
     putchar(')');
     return codes;
 }
@@ -131,6 +146,8 @@ static const uint8_t *print_codes(const uint8_t *codes)
         codes = print_codes(codes);
         putchar(')');
         return codes;
+    case RIGHTS_QUORUM:
+        return print_quorum(codes);
     case RIGHTS_SEE_OF:
     case RIGHTS_CHANGE_OF:
         fputs(side_words[code - RIGHTS_SEE_OF], stdout);
@@ -262,9 +279,10 @@ static void check_derivation(const struct ledger *ledger, struct term label, uin
 
 int main(void)
 {
-    static struct ledger plain, granted;
-    const struct term a = TERM(0), b = TERM(1), c = TERM(2), anyone = TERM(RIGHTS_WEAKEST);
-    const struct term change_of_b = TERM(RIGHTS_CHANGE_OF, 1);
+    static struct ledger plain, granted, edited;
+    const struct term a = TERM(0), b = TERM(1), c = TERM(2), d = TERM(3), anyone = TERM(RIGHTS_WEAKEST);
+    const struct term change_of_b = TERM(RIGHTS_CHANGE_OF, 1), change_of_d = TERM(RIGHTS_CHANGE_OF, 3);
+    const struct term two_editors = TERM(RIGHTS_QUORUM, 2, 3, 0, 1, 2);
     const uint32_t day = 20240131, next_day = 20240201;
 
     start_ledger(&plain, 2);
@@ -291,5 +309,12 @@ int main(void)
     granted.bytes[600] ^= 1;
     puts("After a byte of that ledger was changed:");
     ask_acts_for(&granted, a, b, change_of_b, day);
+
+    start_ledger(&edited, 4);
+    add_grant(&edited, two_editors, d, change_of_d, 0, 0);
+    puts("With the grant that any two of the editors A, B and C act for D, said under change(D):");
+    ask_acts_for(&edited, TERM(RIGHTS_BOTH, 0, 2), d, change_of_d, day);
+    ask_acts_for(&edited, a, d, change_of_d, day);
+    show_short_form(4, two_editors);
     return 0;
 }

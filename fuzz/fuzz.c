@@ -4,6 +4,7 @@
  * how often each answer was met.
  */
 #include "coverage.h"
+#include "reference.h"
 
 #include <stdbool.h>
 #include <stdlib.h>
@@ -60,19 +61,31 @@ static struct term take_any_bytes(struct input *in)
     return term;
 }
 
+/* A quorum's code, k and m, mostly in range; gives m, or 0 if it is more than any quorum has. */
+static unsigned take_quorum(struct input *in, struct term *term)
+{
+    unsigned m = 1 + take_below(in, PARTS), k = m <= PARTS ? 1 + take_below(in, m) : take(in);
+    put_quorum(term, k, m);
+    return m <= PARTS ? m : 0;
+}
+
 /* Codes as long as parts are missing: a good term, unless it gets too long. */
 static struct term take_good_term(struct input *in, unsigned n)
 {
-    static const uint8_t codes[18] = {WEAKEST, STRONGEST, BOTH, EITHER, SEE_OF, CHANGE_OF,
+    static const uint8_t codes[19] = {WEAKEST, STRONGEST, BOTH, EITHER, QUORUM, SEE_OF, CHANGE_OF,
                                       0, 1, 2, 3, 4, 5, 6, 7, 8, 9, 10, 11};
     struct term term = {0};
-    for (unsigned missing = 1; missing > 0 && term.length < CODES;) {
-        unsigned code = codes[take(in) % (6 + n)];
+    for (unsigned missing = 1; missing > 0 && term.length < CODES; missing--) {
+        unsigned code = codes[take(in) % (7 + n)];
+        if (code == QUORUM) {
+            missing += take_quorum(in, &term);
+            continue;
+        }
         put_code(&term, code);
         if (code == BOTH || code == EITHER)
+            missing += 2;
+        else if (code == SEE_OF || code == CHANGE_OF)
             missing++;
-        else if (code != SEE_OF && code != CHANGE_OF)
-            missing--;
     }
     return term;
 }
@@ -82,16 +95,35 @@ static struct term take_term(struct input *in, unsigned n)
     return take(in) < 240 && n <= NAMES ? take_good_term(in, n) : take_any_bytes(in);
 }
 
-/* The rest of the input as a text: mostly as characters of the language, now and then the bytes themselves. */
-static struct term take_text(struct input *in)
+static uint8_t take_character(struct input *in)
 {
-    static const char characters[] = "abcdefghijkl*_()&|><";
-    struct term text = {0};
-    bool themselves = take(in) >= 240;
-    while (in->left > 0 && text.length <= TEXT_MOST) {
-        uint8_t byte = take(in);
-        put_code(&text, themselves ? byte : (uint8_t)characters[byte % (sizeof characters - 1)]);
+    static const char characters[] = "abcdefghijkl*_()&|><:,0123456789";
+    return (uint8_t)characters[take(in) % (sizeof characters - 1)];
+}
+
+/* A good term as the reference writes it, with up to three other characters. */
+static struct term take_written_text(struct input *in, unsigned n)
+{
+    struct term term = take_good_term(in, n), text = {0};
+    uint32_t number = reference_write_term(n, term.codes, term.length, text.codes, TEXT_MOST);
+    text.length = kind_of(number) == YES ? number : 0;
+    for (unsigned patches = take(in) % 4; patches > 0 && text.length > 0; patches--) {
+        size_t place = take(in) % text.length;
+        text.codes[place] = take_character(in);
     }
+    return text;
+}
+
+/* The text of a term; or the rest of the input, mostly as characters of the language, now and then the bytes
+ * themselves. */
+static struct term take_text(struct input *in, unsigned n)
+{
+    struct term text = {0};
+    unsigned draw = take(in);
+    if (draw < 96 && n <= NAMES)
+        return take_written_text(in, n);
+    while (in->left > 0 && text.length <= TEXT_MOST)
+        put_code(&text, draw < 240 ? take_character(in) : take(in));
     return text;
 }
 
@@ -230,7 +262,7 @@ static void take_call(struct input *in, struct call *call)
     call->buffer_length = take_buffer_length(in, buffer_length_of(call->operation));
     if (call->operation == SHORT_FORM || call->operation == READ_TEXT || call->operation == WRITE_TERM) {
         call->number = n < 256 ? n : take_eight(in);
-        call->p = call->operation == READ_TEXT ? take_text(in) : take_term(in, n);
+        call->p = call->operation == READ_TEXT ? take_text(in, n) : take_term(in, n);
         return;
     }
     call->day = take_date(in);
@@ -282,6 +314,6 @@ int LLVMFuzzerTestOneInput(const uint8_t *bytes, size_t length)
                 (unsigned long)got);
         abort();
     }
-    count_answer(&coverage, call.operation, got);
+    count_answer(&coverage, &call, got);
     return 0;
 }

@@ -11,12 +11,13 @@
  * Terms. Who p or q is, and how far a label reaches, is said by a term: 1 to 64 bytes, operator first
  * (enum rights_code). With names 00, 01, 02: `30 00 31 01 02` is 00 together with 01 or 02. A term has
  * two sides: who may see, and who may change. `40 00` is only the see side of 00, `41 00` only the change
- * side.
+ * side. `32 02 03 00 01 02` is a quorum: any two of the three.
  *
  * Coalitions. A coalition is a set of names, written as a number: name i adds 2^i. A coalition holds a
- * name, on both sides, if it has it as a member; it holds a both where it holds both parts, and so on.
- * It never holds the strongest party and always holds the weakest. `40 x` is held on the see side where x
- * is held there, and always on the change side; `41 x` the other way round.
+ * name, on both sides, if it has it as a member; it holds a both where it holds both parts, an either where
+ * it holds one, and a quorum where it holds at least k of the m parts, of which equal ones count each. It
+ * never holds the strongest party and always holds the weakest. `40 x` is held on the see side where x is
+ * held there, and always on the change side; `41 x` the other way round.
  *
  * The ledger. Blocks of 512 bytes; the last two bytes of a block are its check, big-endian: the sum of
  * (i + 1) times byte i, i from 0 to 509, modulo 65521. Block 0: byte 0 is 01, byte 1 is n, bytes 2 and 3 are
@@ -60,13 +61,14 @@ extern "C" {
  * header changes its meaning, or a new one comes. 1 is the first: where there is no such macro, #if takes it
  * for 0. Since 2, RIGHTS_SHORT_FORM_MIN is 3700; before, it was 16388. Since 3, every call but
  * rights_short_form takes a day, and a grant's block has days, with refusals 84 to 86; before, bytes 208 to
- * 215 were 00, and such a ledger is read as it was.
+ * 215 were 00, and such a ledger is read as it was. Since 4, terms have quorums; before, `32` was no code.
  */
-#define RIGHTS_VERSION 3
+#define RIGHTS_VERSION 4
 
 /* Sizes, in bytes unless said otherwise. */
 #define RIGHTS_NAMES_MAX 12        /* names of a job */
 #define RIGHTS_TERM_MAX 64         /* a term */
+#define RIGHTS_PARTS_MAX 12        /* parts of a quorum */
 #define RIGHTS_BLOCK_SIZE 512      /* a block of a ledger */
 #define RIGHTS_GRANTS_MAX 64       /* grants of a ledger */
 #define RIGHTS_LEDGER_MAX 33280    /* a ledger of 64 grants */
@@ -83,6 +85,7 @@ enum rights_code {
     RIGHTS_WEAKEST = 0x21,
     RIGHTS_BOTH = 0x30,      /* of the next two terms */
     RIGHTS_EITHER = 0x31,    /* of the next two terms */
+    RIGHTS_QUORUM = 0x32,    /* a byte k, a byte m, then m terms: at least k of them; 1 <= k <= m <= 12 */
     RIGHTS_SEE_OF = 0x40,    /* the see side (confidentiality) of the next term */
     RIGHTS_CHANGE_OF = 0x41  /* the change side (integrity) of the next term */
 };
@@ -102,7 +105,7 @@ enum rights_side {
 enum rights_refusal {
     /* the term of a short form */
     RIGHTS_TERM_LENGTH = 1,     /* no codes, or over 64 */
-    RIGHTS_TERM_CODE = 2,       /* a byte that is no code, or a name not below n */
+    RIGHTS_TERM_CODE = 2,       /* a byte that is no code, a name not below n, or a quorum out of range */
     RIGHTS_TERM_ENDS = 3,       /* the codes end too early */
     RIGHTS_TERM_LEFT_OVER = 4,  /* codes are left after the term */
 
@@ -253,7 +256,7 @@ static inline const char *rights_refusal_text(unsigned refusal)
 {
     switch (refusal) {
     case RIGHTS_TERM_LENGTH: return "the term has no codes, or over 64";
-    case RIGHTS_TERM_CODE: return "the term has a byte that is no code, or an unknown name";
+    case RIGHTS_TERM_CODE: return "the term has a byte that is no code, an unknown name, or a quorum out of range";
     case RIGHTS_TERM_ENDS: return "the term ends too early";
     case RIGHTS_TERM_LEFT_OVER: return "codes are left after the term";
     case RIGHTS_NAMES: return "a job has 1 to 12 names";
@@ -267,15 +270,15 @@ static inline const char *rights_refusal_text(unsigned refusal)
     case RIGHTS_GRANT_DATE: return "a grant has a date that is not real";
     case RIGHTS_GRANT_DAYS: return "a grant's first day is after its last";
     case RIGHTS_P_LENGTH: return "p has no codes, or over 64";
-    case RIGHTS_P_CODE: return "p has a byte that is no code, or an unknown name";
+    case RIGHTS_P_CODE: return "p has a byte that is no code, an unknown name, or a quorum out of range";
     case RIGHTS_P_ENDS: return "p ends too early";
     case RIGHTS_P_LEFT_OVER: return "codes are left after p";
     case RIGHTS_Q_LENGTH: return "q has no codes, or over 64";
-    case RIGHTS_Q_CODE: return "q has a byte that is no code, or an unknown name";
+    case RIGHTS_Q_CODE: return "q has a byte that is no code, an unknown name, or a quorum out of range";
     case RIGHTS_Q_ENDS: return "q ends too early";
     case RIGHTS_Q_LEFT_OVER: return "codes are left after q";
     case RIGHTS_LABEL_LENGTH: return "the label has no codes, or over 64";
-    case RIGHTS_LABEL_CODE: return "the label has a byte that is no code, or an unknown name";
+    case RIGHTS_LABEL_CODE: return "the label has a byte that is no code, an unknown name, or a quorum out of range";
     case RIGHTS_LABEL_ENDS: return "the label ends too early";
     case RIGHTS_LABEL_LEFT_OVER: return "codes are left after the label";
     case RIGHTS_EXTRACT_BUFFER: return "an extract takes a buffer of 1,024 bytes";

@@ -8,6 +8,7 @@
 /* Sizes, in bytes unless said otherwise. */
 enum {
     NAMES = 12, /* of a job, at most */
+    PARTS = 12, /* of a quorum, at most */
     CODES = 64, /* of a term, at most */
     BLOCK = 512,
     GRANTS = 64, /* of a ledger, at most */
@@ -22,7 +23,15 @@ enum {
 
 enum { FIRST_YEAR = 1900, LAST_YEAR = 2199, DAYS_ADDED_MOST = 366 };
 
-enum code { STRONGEST = 0x20, WEAKEST = 0x21, BOTH = 0x30, EITHER = 0x31, SEE_OF = 0x40, CHANGE_OF = 0x41 };
+enum code {
+    STRONGEST = 0x20,
+    WEAKEST = 0x21,
+    BOTH = 0x30,
+    EITHER = 0x31,
+    QUORUM = 0x32,
+    SEE_OF = 0x40,
+    CHANGE_OF = 0x41
+};
 
 enum side { SEE = 0, CHANGE = 1 };
 

@@ -1,7 +1,7 @@
 /*
- * Document 01 in plain C, section by section, one coalition at a time, with the days of document 02, K2, and the test
- * of a coalition of K3. Meant to be seen to be right, not to be fast. A refusal is its number; 0 says that there is
- * none.
+ * Document 01 in plain C, section by section, one coalition at a time, with the days of document 02, K2, the test of a
+ * coalition of K3 and the quorums of K4. Meant to be seen to be right, not to be fast. A refusal is its number; 0 says
+ * that there is none.
  */
 #include "reference.h"
 
@@ -19,6 +19,28 @@ static struct term term_at(const uint8_t *codes, size_t length)
     return term;
 }
 
+bool quorate(unsigned k, unsigned m)
+{
+    return 1 <= k && k <= m && m <= PARTS;
+}
+
+static unsigned read_part(unsigned n, struct term term, size_t *at);
+
+/* Reads the rest of a quorum: k, m and m terms. That k is out of range is said where m stands. */
+static unsigned read_quorum(unsigned n, struct term term, size_t *at)
+{
+    if (term.length - *at < 2)
+        return 3;
+    uint8_t k = term.codes[(*at)++];
+    uint8_t m = term.codes[(*at)++];
+    if (!quorate(k, m))
+        return 2;
+    unsigned refusal = 0;
+    for (unsigned part = 0; part < m && !refusal; part++)
+        refusal = read_part(n, term, at);
+    return refusal;
+}
+
 /* Reads one term from place *at on, and moves *at behind it. */
 static unsigned read_part(unsigned n, struct term term, size_t *at)
 {
@@ -34,6 +56,8 @@ static unsigned read_part(unsigned n, struct term term, size_t *at)
     case EITHER:
         refusal = read_part(n, term, at);
         return refusal ? refusal : read_part(n, term, at);
+    case QUORUM:
+        return read_quorum(n, term, at);
     case SEE_OF:
     case CHANGE_OF:
         return read_part(n, term, at);
@@ -58,6 +82,18 @@ unsigned read_term(unsigned n, struct term term)
     return at < term.length ? 4 : 0;
 }
 
+static bool part_held(const uint8_t **next, enum side side, unsigned coalition);
+
+/* Are at least k of the m parts held? Reads k, m and the parts from *next on, as part_held does. */
+static bool quorum_held(const uint8_t **next, enum side side, unsigned coalition)
+{
+    unsigned k = *(*next)++, m = *(*next)++, count = 0;
+    for (unsigned part = 0; part < m; part++)
+        if (part_held(next, side, coalition))
+            count++;
+    return count >= k;
+}
+
 /* Is the term that starts at *next held? Moves *next behind it. */
 static bool part_held(const uint8_t **next, enum side side, unsigned coalition)
 {
@@ -76,6 +112,8 @@ static bool part_held(const uint8_t **next, enum side side, unsigned coalition)
         first = part_held(next, side, coalition);
         second = part_held(next, side, coalition);
         return first || second;
+    case QUORUM:
+        return quorum_held(next, side, coalition);
     case SEE_OF:
         first = part_held(next, side, coalition);
         return side == SEE ? first : true;

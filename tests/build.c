@@ -20,6 +20,13 @@ void put_term(struct term *term, const struct term *part)
         put_code(term, part->codes[i]);
 }
 
+void put_quorum(struct term *term, unsigned k, unsigned m)
+{
+    put_code(term, QUORUM);
+    put_code(term, k);
+    put_code(term, m);
+}
+
 struct term term_of(const uint8_t *codes, size_t length)
 {
     struct term term = {0};

@@ -31,10 +31,12 @@ struct derivation {
     uint8_t bytes[DERIVATION_ROOM];
 };
 
-/* One more code; the same code so many times; one more term. A term that is full stays as it is. */
+/* One more code; the same code so many times; one more term; a quorum's code, k and m. A term that is full stays as it
+ * is. */
 void put_code(struct term *term, unsigned code);
 void put_codes(struct term *term, unsigned code, unsigned times);
 void put_term(struct term *term, const struct term *part);
+void put_quorum(struct term *term, unsigned k, unsigned m);
 
 /* A term of these codes; of one code; a code and then one term; a code and then two. */
 struct term term_of(const uint8_t *codes, size_t length);

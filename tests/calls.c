@@ -2,6 +2,8 @@
 
 #include "reference.h"
 
+#include <string.h>
+
 const char *const operation_names[OPERATIONS] = {
     "acts-for", "flows-to", "extract", "short form", "derivation", "quoting", "read text", "write term", "add days",
     "test",
@@ -40,6 +42,36 @@ const struct engine reference_engine = {
 uint64_t number_of_test(uint32_t side, uint32_t coalition)
 {
     return (uint64_t)side << 32 | coalition;
+}
+
+static bool has_byte(struct term term, uint8_t byte)
+{
+    return memchr(term.codes, byte, term.length) != NULL;
+}
+
+static bool quorum_in_ledger(const struct ledger *ledger)
+{
+    for (size_t i = BLOCK; i < ledger->length; i += BLOCK)
+        for (unsigned which = 0; which < 3; which++)
+            if (has_byte(term_of_grant(ledger, i / BLOCK - 1, which), QUORUM))
+                return true;
+    return false;
+}
+
+static bool quorum_in_derivation(const struct derivation *derivation)
+{
+    for (size_t i = 0; i < step_count(derivation); i++)
+        if (has_byte(left_of(derivation, i), QUORUM) || has_byte(right_of(derivation, i), QUORUM))
+            return true;
+    return false;
+}
+
+/* No other byte of a term is 32, and no other character of a text is a colon. */
+bool has_quorum(const struct call *call)
+{
+    return has_byte(call->p, call->operation == READ_TEXT ? ':' : QUORUM) || has_byte(call->q, QUORUM)
+        || has_byte(call->label, QUORUM) || quorum_in_ledger(&call->ledger)
+        || quorum_in_derivation(&call->derivation);
 }
 
 static struct slice slice_of_term(const struct term *term)

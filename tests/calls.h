@@ -7,6 +7,8 @@
 
 #include "build.h"
 
+#include <stdbool.h>
+
 enum operation {
     ACTS_FOR,
     FLOWS_TO,
@@ -49,6 +51,9 @@ struct call {
     size_t buffer_length;
     uint8_t fill; /* every byte of the buffer before the call */
 };
+
+/* Is there a quorum in the terms or the text that the call takes? Asked of a call that is not refused. */
+bool has_quorum(const struct call *call);
 
 struct slice {
     const uint8_t *bytes;

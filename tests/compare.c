@@ -230,7 +230,7 @@ static void compare_random_calls(const struct fences *fences, struct run *run)
         struct request request = request_of(&call, buffer);
         uint32_t number = compare_call(fences, &request, run->done / PERFORMED % 2 == 0, &same);
         same = same && compare_written(&request, number);
-        count_answer(&run->coverage, call.operation, number);
+        count_answer(&run->coverage, &call, number);
         run->done++;
         if (!same)
             printf("(call %lu of seed %lu)\n", run->done, run->seed);

@@ -50,22 +50,27 @@ static unsigned no_of(enum operation operation, uint32_t number)
     return operation == TEST_COALITION ? number % PER_KIND > 1 : number / PER_SIDE % 2;
 }
 
-void count_answer(struct coverage *coverage, enum operation operation, uint32_t number)
+void count_answer(struct coverage *coverage, const struct call *call, uint32_t number)
 {
+    enum operation operation = call->operation;
     if (kind_of(number) == YES)
         coverage->yes[operation]++;
     else if (kind_of(number) == NO)
         coverage->no[operation][no_of(operation, number)]++;
     else
         coverage->refused[operation][number % PER_STEP]++;
+    if (kind_of(number) != REFUSED)
+        coverage->with_quorum[operation] += has_quorum(call);
 }
 
-void count_quote(struct coverage *coverage, size_t length)
+void count_quote(struct coverage *coverage, const struct call *call, size_t length)
 {
-    if (length > 0)
+    if (length > 0) {
         coverage->yes[QUOTE]++;
-    else
+        coverage->with_quorum[QUOTE] += has_quorum(call);
+    } else {
         coverage->no[QUOTE][0]++;
+    }
 }
 
 /* Prints a count, and gives 1 if it is 0. */
@@ -96,6 +101,8 @@ static unsigned print_operation(const struct coverage *coverage, unsigned operat
     for (unsigned i = 0; i < 2; i++)
         if (no_names[operation][i] != NULL)
             missing += print_count(no_names[operation][i], coverage->no[operation][i], to);
+    if (operation != ADD_DAYS)
+        missing += print_count("with a quorum", coverage->with_quorum[operation], to);
     missing += print_refusals(coverage, operation, to);
     fputc('\n', to);
     return missing;

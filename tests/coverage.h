@@ -1,12 +1,12 @@
 /*
- * How often each operation gave each kind of answer and each refusal of documents 01 and 02.
+ * How often each operation gave each kind of answer and each refusal of documents 01 and 02, and an answer that is no
+ * refusal on a quorum.
  */
 #ifndef COVERAGE_H
 #define COVERAGE_H
 
 #include "calls.h"
 
-#include <stdbool.h>
 #include <stdio.h>
 
 struct coverage {
@@ -14,15 +14,16 @@ struct coverage {
     /* by side; of quoting the first: an empty part; of a test: broken by the first grant tested, or by a later one */
     unsigned long no[OPERATIONS][2];
     unsigned long refused[OPERATIONS][256];
+    unsigned long with_quorum[OPERATIONS]; /* not refused; of quoting: a part */
 };
 
 /* Is this the number of a refusal, of any operation that C calls? */
 bool is_refusal(unsigned number);
 
-/* Counts the answer that an operation gave, any but quoting. */
-void count_answer(struct coverage *coverage, enum operation operation, uint32_t number);
+/* Counts the answer that a call gave, any but quoting. */
+void count_answer(struct coverage *coverage, const struct call *call, uint32_t number);
 
-void count_quote(struct coverage *coverage, size_t length);
+void count_quote(struct coverage *coverage, const struct call *call, size_t length);
 
 /* Prints a line for each of these operations, and gives how many answers that the documents have for them were
  * never met; these are named. */

@@ -155,9 +155,9 @@ static void make_packed(struct source *source, enum operation operation, struct 
     make_record(&record, &call, &request, result);
     pack(&record, packed);
     if (operation == QUOTE)
-        count_quote(seen, result.length);
+        count_quote(seen, &call, result.length);
     else
-        count_answer(seen, operation, (uint32_t)result.number);
+        count_answer(seen, &call, (uint32_t)result.number);
 }
 
 static size_t write_record(const struct record *packed, FILE *to)

@@ -85,14 +85,36 @@ static void put_random_leaf(struct source *s, struct term *term, unsigned n)
         put_code(term, below(s, n));
 }
 
-/* Which part of a joiner has all the codes but one. */
+/* Which of several parts has all the codes but one for each of the others. */
 enum lean { NEITHER, LEFT, RIGHT };
 
-static unsigned size_of_left_part(struct source *s, unsigned size, enum lean lean)
+/* Of so many codes for so many parts, those of the first. */
+static unsigned size_of_first_part(struct source *s, unsigned size, unsigned parts, enum lean lean)
 {
-    if (lean == NEITHER)
-        return between(s, 1, size - 2);
-    return lean == LEFT ? size - 2 : 1;
+    unsigned most = size - (parts - 1);
+    if (parts == 1 || lean == LEFT)
+        return most;
+    return lean == RIGHT ? 1 : between(s, 1, most);
+}
+
+static void put_random_part(struct source *s, struct term *term, unsigned n, unsigned size, enum lean lean);
+
+static void put_random_parts(struct source *s, struct term *term, unsigned n, unsigned size, unsigned parts,
+                             enum lean lean)
+{
+    for (; parts > 0; parts--) {
+        unsigned first = size_of_first_part(s, size, parts, lean);
+        put_random_part(s, term, n, first, lean);
+        size -= first;
+    }
+}
+
+/* A quorum's code, k and m, of at most so many parts; gives m. */
+static unsigned put_random_quorum(struct source *s, struct term *term, unsigned most)
+{
+    unsigned m = between(s, 1, most < PARTS ? most : PARTS), k = between(s, 1, m);
+    put_quorum(term, k, m);
+    return m;
 }
 
 /* A term of just so many codes. */
@@ -103,11 +125,12 @@ static void put_random_part(struct source *s, struct term *term, unsigned n, uns
     } else if (size == 2 || one_in(s, 6)) {
         put_code(term, SEE_OF + below(s, 2));
         put_random_part(s, term, n, size - 1, lean);
+    } else if (size > 3 && one_in(s, 4)) {
+        unsigned parts = put_random_quorum(s, term, size - 3);
+        put_random_parts(s, term, n, size - 3, parts, lean);
     } else {
-        unsigned first = size_of_left_part(s, size, lean);
         put_code(term, BOTH + below(s, 2));
-        put_random_part(s, term, n, first, lean);
-        put_random_part(s, term, n, size - 1 - first, lean);
+        put_random_parts(s, term, n, size - 1, 2, lean);
     }
 }
 
@@ -143,6 +166,21 @@ static struct term many_ways(struct source *s, unsigned n)
     return term;
 }
 
+/* A quorum of the names from one on, in a circle: it has many minimal coalitions, or equal parts. */
+static struct term quorum_of_names(struct source *s, unsigned n)
+{
+    struct term term = {0};
+    unsigned parts = put_random_quorum(s, &term, PARTS), first = below(s, n);
+    for (unsigned i = 0; i < parts; i++)
+        put_code(&term, (first + i) % n);
+    return term;
+}
+
+static struct term some_term(struct source *s, unsigned n)
+{
+    return one_in(s, 12) ? quorum_of_names(s, n) : random_term(s, n, random_size(s));
+}
+
 static size_t put_one_side(struct term *to, const struct term *term, size_t at, unsigned side);
 
 /* Leaves one part of the term out; gives the place behind it. */
@@ -152,14 +190,26 @@ static size_t skip_part(const struct term *term, size_t at)
     return put_one_side(&dropped, term, at, SEE_OF);
 }
 
+/* Puts so many parts from a place on as put_one_side does. */
+static size_t put_parts_of_one_side(struct term *to, const struct term *term, size_t at, unsigned side, unsigned parts)
+{
+    for (; parts > 0; parts--)
+        at = put_one_side(to, term, at, side);
+    return at;
+}
+
 /* Puts the part at a place as it is held on one side, without projections; gives the place behind it. */
 static size_t put_one_side(struct term *to, const struct term *term, size_t at, unsigned side)
 {
     uint8_t code = term->codes[at++];
     if (code == BOTH || code == EITHER) {
         put_code(to, code);
-        at = put_one_side(to, term, at, side);
-        return put_one_side(to, term, at, side);
+        return put_parts_of_one_side(to, term, at, side, 2);
+    }
+    if (code == QUORUM) {
+        unsigned k = term->codes[at], m = term->codes[at + 1];
+        put_quorum(to, k, m);
+        return put_parts_of_one_side(to, term, at + 2, side, m);
     }
     if (code == side)
         return put_one_side(to, term, at, side);
@@ -185,7 +235,7 @@ static struct term speaking_for(const struct term *q)
 
 static unsigned bad_code(struct source *s, unsigned n)
 {
-    static const uint8_t codes[] = {0x0C, 0x0D, 0x1F, 0x22, 0x2F, 0x32, 0x3F, 0x42, 0x7F, 0x80, 0xFE, 0xFF};
+    static const uint8_t codes[] = {0x0C, 0x0D, 0x1F, 0x22, 0x2F, 0x33, 0x3F, 0x42, 0x7F, 0x80, 0xFE, 0xFF};
     unsigned draw = below(s, 2 * sizeof codes);
     return draw < sizeof codes ? codes[draw] : n;
 }
@@ -220,9 +270,59 @@ static void drop_last_code(struct term *term)
         term->codes[0] = BOTH;
 }
 
+/* Where a byte stands, from some place on and then from the beginning; the length if it doesn't. */
+static size_t place_of(struct source *s, const struct term *term, uint8_t byte)
+{
+    unsigned length = (unsigned)term->length, start = below(s, length);
+    for (unsigned i = 0; i < length; i++)
+        if (term->codes[(start + i) % length] == byte)
+            return (start + i) % length;
+    return length;
+}
+
+/* Another k or m, mostly out of range, or not the number of the parts; or nothing behind the code, k or m. A term
+ * without a quorum becomes one. */
+static void damage_quorum(struct source *s, struct term *term, unsigned n)
+{
+    static const uint8_t numbers[] = {0, 1, 12, 13, 0x20, 0x21, 0x30, 0x32, 0x40, 0x7F, 0x80, 0xFF};
+    size_t place = place_of(s, term, QUORUM);
+    if (place + 2 >= term->length) {
+        *term = quorum_of_names(s, n);
+        place = 0;
+    }
+    uint8_t *k = &term->codes[place + 1], *m = &term->codes[place + 2], kept = *k;
+    switch (below(s, 8)) {
+    case 0:
+        *k = 0;
+        break;
+    case 1:
+        *k = (uint8_t)(*m + 1);
+        break;
+    case 2:
+        *k = numbers[below(s, sizeof numbers)];
+        break;
+    case 3:
+        *m = numbers[below(s, sizeof numbers)];
+        break;
+    case 4:
+        ++*m;
+        break;
+    case 5:
+        --*m;
+        break;
+    case 6:
+        *k = *m;
+        *m = kept;
+        break;
+    default:
+        *k = one_in(s, 2) ? *k : any_byte(s);
+        term->length = place + between(s, 1, 3);
+    }
+}
+
 static void damage_term(struct source *s, struct term *term, unsigned n)
 {
-    switch (below(s, 6)) {
+    switch (below(s, 8)) {
     case 0:
         term->length = 0;
         break;
@@ -240,8 +340,11 @@ static void damage_term(struct source *s, struct term *term, unsigned n)
     case 4:
         put_code(term, any_byte(s));
         break;
-    default:
+    case 5:
         *term = random_bytes(s);
+        break;
+    default:
+        damage_quorum(s, term, n);
     }
 }
 
@@ -280,6 +383,33 @@ static void put_leaf(struct source *s, struct term *text, unsigned n)
     put_code(text, character_of(leaf.codes[0]));
 }
 
+static void put_number(struct term *text, unsigned number)
+{
+    if (number >= 10)
+        put_code(text, '0' + number / 10);
+    put_code(text, '0' + number % 10);
+}
+
+static size_t put_text(struct source *s, struct term *text, const struct term *term, size_t at, unsigned rank,
+                       unsigned one_in_so_many);
+
+/* Puts the text of a quorum whose k is at a place; gives the place behind it. */
+static size_t put_quorum_text(struct source *s, struct term *text, const struct term *term, size_t at,
+                              unsigned one_in_so_many)
+{
+    unsigned k = term->codes[at], m = term->codes[at + 1];
+    at += 2;
+    put_number(text, k);
+    put_code(text, ':');
+    put_number(text, m);
+    for (unsigned i = 0; i < m; i++) {
+        put_code(text, i == 0 ? '(' : ',');
+        at = put_text(s, text, term, at, 2, one_in_so_many);
+    }
+    put_code(text, ')');
+    return at;
+}
+
 /* Puts the text of the part at a place; gives the place behind it. A part of higher rank than this is in brackets,
  * and one in so many parts is in brackets that it doesn't need. */
 static size_t put_text(struct source *s, struct term *text, const struct term *term, size_t at, unsigned rank,
@@ -297,6 +427,8 @@ static size_t put_text(struct source *s, struct term *text, const struct term *t
     } else if (code == SEE_OF || code == CHANGE_OF) {
         at = put_text(s, text, term, at, 0, one_in_so_many);
         put_code(text, code == SEE_OF ? '>' : '<');
+    } else if (code == QUORUM) {
+        at = put_quorum_text(s, text, term, at, one_in_so_many);
     } else {
         put_code(text, character_of(code));
     }
@@ -304,13 +436,25 @@ static size_t put_text(struct source *s, struct term *text, const struct term *t
     return at;
 }
 
+static struct term text_of(struct source *s, const struct term *term)
+{
+    static const uint8_t seldom_or_often[] = {2, 5, 20, 200};
+    struct term text = {0};
+    put_text(s, &text, term, 0, 2, seldom_or_often[below(s, sizeof seldom_or_often)]);
+    return text;
+}
+
 /* A text of so many codes. */
 static struct term text_of_size(struct source *s, unsigned n, unsigned size)
 {
-    static const uint8_t seldom_or_often[] = {2, 5, 20, 200};
-    struct term term = leaning_term(s, n, size), text = {0};
-    put_text(s, &text, &term, 0, 2, seldom_or_often[below(s, sizeof seldom_or_often)]);
-    return text;
+    struct term term = leaning_term(s, n, size);
+    return text_of(s, &term);
+}
+
+static struct term text_of_quorum(struct source *s, unsigned n)
+{
+    struct term quorum = quorum_of_names(s, n);
+    return text_of(s, &quorum);
 }
 
 /* A text of just this length without brackets, so that every character is a code. */
@@ -345,7 +489,7 @@ static struct term random_text(struct source *s, unsigned n)
 {
     static const uint16_t lengths[] = {64, 65, 128, 255, 256, 257};
     unsigned length = lengths[below(s, sizeof lengths / sizeof *lengths)];
-    switch (below(s, 8)) {
+    switch (below(s, 9)) {
     case 0:
         return bare_text(s, n, length);
     case 1:
@@ -354,6 +498,8 @@ static struct term random_text(struct source *s, unsigned n)
         return text_of_size(s, n, between(s, CODES, CODES + 1));
     case 3:
         return text_of_size(s, n, between(s, CODES - 6, 2 * CODES));
+    case 4:
+        return text_of_quorum(s, n);
     default:
         return text_of_size(s, n, random_size(s));
     }
@@ -364,11 +510,11 @@ static struct term random_text(struct source *s, unsigned n)
 /* Mostly a character of the language. */
 static unsigned any_character(struct source *s)
 {
-    static const char characters[] = "abcdefghijkl*_()&|<>";
-    unsigned draw = below(s, 24);
-    if (draw < sizeof characters - 1)
+    static const char characters[] = "abcdefghijkl*_()&|<>:,0123456789";
+    unsigned count = sizeof characters - 1, draw = below(s, count + 4);
+    if (draw < count)
         return (uint8_t)characters[draw];
-    return draw < 22 ? ' ' : any_byte(s);
+    return draw < count + 2 ? ' ' : any_byte(s);
 }
 
 static struct term random_characters(struct source *s)
@@ -420,10 +566,47 @@ static void drop_character(struct term *text, size_t place)
     memmove(text->codes + place, text->codes + place + 1, text->length - place);
 }
 
+/* Another number before or behind a colon, or one of another length; or a part more, or two in one. A text without a
+ * quorum becomes one. */
+static void damage_quorum_text(struct source *s, struct term *text, unsigned n)
+{
+    size_t colon = place_of(s, text, ':'), comma;
+    if (colon + 2 >= text->length) {
+        *text = text_of_quorum(s, n);
+        colon = place_of(s, text, ':');
+    }
+    comma = place_of(s, text, ',');
+    unsigned digit = '0' + below(s, 10);
+    switch (below(s, 7)) {
+    case 0:
+        text->codes[colon - 1] = (uint8_t)digit;
+        break;
+    case 1:
+        text->codes[colon + 1] = (uint8_t)digit;
+        break;
+    case 2: /* a leading zero */
+        insert_character(text, one_in(s, 2) ? colon - 1 : colon + 1, '0');
+        break;
+    case 3:
+        insert_character(text, one_in(s, 2) ? colon : colon + 2, digit);
+        break;
+    case 4:
+        drop_character(text, one_in(s, 2) ? colon - 1 : colon + 1);
+        break;
+    case 5: /* before a comma, or at the end */
+        insert_character(text, comma, 'a');
+        insert_character(text, comma, ',');
+        break;
+    default:
+        if (comma < text->length)
+            text->codes[comma] = (uint8_t)random_joiner(s);
+    }
+}
+
 static void damage_text(struct source *s, struct term *text, unsigned n)
 {
     unsigned length = (unsigned)text->length, place = below(s, length);
-    switch (below(s, 10)) {
+    switch (below(s, 12)) {
     case 0:
         text->length = 0;
         break;
@@ -448,6 +631,10 @@ static void damage_text(struct source *s, struct term *text, unsigned n)
         break;
     case 7:
         *text = random_characters(s);
+        break;
+    case 8:
+    case 9:
+        damage_quorum_text(s, text, n);
         break;
     default:
         spoil_name(s, text, place, n);
@@ -549,7 +736,7 @@ static struct term random_grant_label(struct source *s, unsigned n, const struct
     case 0: /* counts under every label */
         return prefixed(CHANGE_OF, &never);
     case 1:
-        return random_term(s, n, random_size(s));
+        return some_term(s, n);
     case 2:
         other = random_term(s, n, between(s, 1, 5));
         return prefixed(CHANGE_OF, &other);
@@ -561,8 +748,7 @@ static struct term random_grant_label(struct source *s, unsigned n, const struct
 
 static void add_random_grant(struct source *s, struct ledger *ledger, unsigned n)
 {
-    struct term p = random_term(s, n, random_size(s));
-    struct term q = random_term(s, n, random_size(s));
+    struct term p = some_term(s, n), q = some_term(s, n);
     struct term label = random_grant_label(s, n, &q);
     add_grant(ledger, &p, &q, &label);
 }
@@ -810,7 +996,7 @@ static struct term some_grant_term(struct source *s, const struct ledger *ledger
 {
     unsigned grants = (unsigned)grant_count(ledger);
     if (grants == 0)
-        return random_term(s, n, random_size(s));
+        return some_term(s, n);
     return term_of_grant(ledger, below(s, grants), which);
 }
 
@@ -824,7 +1010,7 @@ static struct term random_label(struct source *s, const struct ledger *ledger, u
         part = random_term(s, n, between(s, 1, 5));
         return prefixed(CHANGE_OF, &part);
     case 2:
-        return random_term(s, n, random_size(s));
+        return some_term(s, n);
     default: /* what is said under any label with a bare change side is visible */
         return one_code(WEAKEST);
     }
@@ -852,15 +1038,24 @@ static void question_on_grant(struct source *s, struct call *call, unsigned n, u
     call->q = if_short(&joint, &call->q);
 }
 
+/* p a quorum, and q the same with another k. */
+static void question_on_quorum(struct source *s, struct call *call, unsigned n)
+{
+    call->p = call->q = quorum_of_names(s, n);
+    call->q.codes[1] = (uint8_t)between(s, 1, call->q.codes[2]);
+}
+
 static void random_question(struct source *s, struct call *call, unsigned n)
 {
     unsigned grants = (unsigned)grant_count(&call->ledger), draw = below(s, 8);
     if (grants > 0 && draw < 3) {
         question_on_grant(s, call, n, grants);
-        return;
+    } else if (draw == 3) {
+        question_on_quorum(s, call, n);
+    } else {
+        call->p = some_term(s, n);
+        call->q = draw == 4 ? call->p : some_term(s, n);
     }
-    call->p = random_term(s, n, random_size(s));
-    call->q = draw == 3 ? call->p : random_term(s, n, random_size(s));
 }
 
 /* ---- Derivations ---- */
@@ -1143,9 +1338,9 @@ static void maybe_spoil_buffer(struct source *s, struct call *call, const uint16
 static void random_short_form(struct source *s, struct call *call)
 {
     static const uint16_t bad_lengths[8] = {0, 1, 4, 924, 1024, 1850, 3698, 3699};
-    unsigned n = random_names(s);
+    unsigned n = random_names(s), draw = below(s, 6);
     call->number = n;
-    call->p = one_in(s, 3) ? many_ways(s, n) : random_term(s, n, random_size(s));
+    call->p = draw < 2 ? many_ways(s, n) : draw == 2 ? quorum_of_names(s, n) : random_term(s, n, random_size(s));
     if (one_in(s, 2))
         call->buffer_length = between(s, SHORT_FORM_LEAST + 1, BUFFER_ROOM);
     maybe_spoil_names(s, call);

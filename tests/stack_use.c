@@ -45,9 +45,17 @@ static size_t stack_of_thread(uint8_t *stack, struct request *request)
     return STACK - untouched;
 }
 
-/* What the deepest terms and texts are nested by: signs, joiners to the left, joiners to the right; of a text the last
- * is brackets alone. */
-enum shape { SIGNS, LEFT, RIGHT, SHAPES };
+/* What the deepest terms and texts are nested by: signs, joiners to the left, joiners to the right (of a text, brackets
+ * alone), quorums 1:1. Where there is room for one more code, it is a sign. */
+enum shape { SIGNS, LEFT, RIGHT, QUORUMS, SHAPES };
+
+static struct term one_of_one(const struct term *part)
+{
+    struct term term = {0};
+    put_quorum(&term, 1, 1);
+    put_term(&term, part);
+    return term;
+}
 
 static struct term deepest_term(enum shape shape)
 {
@@ -57,9 +65,21 @@ static struct term deepest_term(enum shape shape)
             term = prefixed(CHANGE_OF, &term);
         else if (shape == LEFT)
             term = joined(EITHER, &term, &name);
-        else
+        else if (shape == RIGHT)
             term = joined(EITHER, &name, &term);
-    return prefixed(CHANGE_OF, &term);
+        else
+            term = one_of_one(&term);
+    return term.length < CODES ? prefixed(CHANGE_OF, &term) : term;
+}
+
+/* 1:1(text) */
+static struct term text_of_one(const struct term *text)
+{
+    struct term inside = in_brackets(text), longer = one_code('1');
+    put_code(&longer, ':');
+    put_code(&longer, '1');
+    put_term(&longer, &inside);
+    return longer;
 }
 
 static struct term deepest_text(enum shape shape)
@@ -71,10 +91,13 @@ static struct term deepest_text(enum shape shape)
         } else if (shape == LEFT) {
             put_code(&text, '|');
             put_code(&text, 'a');
-        } else {
+        } else if (shape == RIGHT) {
             text = in_brackets(&text);
+        } else {
+            text = text_of_one(&text);
         }
-    put_code(&text, '<');
+    if (text.length < TEXT_MOST)
+        put_code(&text, '<');
     return text;
 }
 

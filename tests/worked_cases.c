@@ -1,6 +1,6 @@
 /*
  * The worked cases A to L of document 01, and of document 02 the short form's buffer by K12, the notation by K1, days
- * by K2 and the test of a coalition by K3, on the reference and on the library.
+ * by K2, the test of a coalition by K3 and quorums by K4, on the reference and on the library.
  */
 #include "calls.h"
 
@@ -119,15 +119,23 @@ static void cases_of_flows_to(const struct engine *e)
     expect(e, "J", ask(e->flows_to, &p, "40 30 00 01", "40 00", "21") == no_on_see_side(1));
 }
 
+/* Bytes 0 and 512 have one value, 1 and 513 another, the rest is 00. */
+static bool extract_of_two(const struct engine *e, const struct ledger *ledger, const char *under, uint32_t day,
+                           uint8_t first, uint8_t second)
+{
+    uint8_t buffer[EXTRACT_SIZE], expected[EXTRACT_SIZE] = {0};
+    struct term label = codes(under);
+    memset(buffer, 0xAA, sizeof buffer);
+    expected[0] = expected[512] = first;
+    expected[1] = expected[513] = second;
+    return e->extract(ledger->bytes, ledger->length, label.codes, label.length, day, buffer, sizeof buffer) == yes()
+        && memcmp(buffer, expected, sizeof buffer) == 0;
+}
+
 /* Bytes 0 and 512 have this value, the rest is 00. */
 static bool extract_is(const struct engine *e, const struct ledger *ledger, uint32_t day, uint8_t value)
 {
-    uint8_t buffer[EXTRACT_SIZE], expected[EXTRACT_SIZE] = {0};
-    struct term label = codes("41 01");
-    memset(buffer, 0xAA, sizeof buffer);
-    expected[0] = expected[512] = value;
-    return e->extract(ledger->bytes, ledger->length, label.codes, label.length, day, buffer, sizeof buffer) == yes()
-        && memcmp(buffer, expected, sizeof buffer) == 0;
+    return extract_of_two(e, ledger, "41 01", day, value, 0);
 }
 
 static void case_of_extract(const struct engine *e)
@@ -173,11 +181,11 @@ static void cases_of_short_form(const struct engine *e)
     expect(e, "K", short_form_is(e, 2, "20", "00 00 00 00"));
 }
 
-/* The refusal of a term in a job of two names; 0 if it passes. */
-static uint32_t refusal_of_term(const struct engine *e, const struct term *t)
+/* The refusal of a term in a job of n names; 0 if it passes. */
+static uint32_t refusal_of_term(const struct engine *e, uint64_t n, const struct term *t)
 {
     static uint8_t buffer[SHORT_FORM_LEAST];
-    uint32_t number = e->short_form(2, t->codes, t->length, buffer, sizeof buffer);
+    uint32_t number = e->short_form(n, t->codes, t->length, buffer, sizeof buffer);
     return number / PER_KIND == REFUSED ? number % PER_KIND : 0;
 }
 
@@ -201,12 +209,12 @@ static void case_of_refusals(const struct engine *e)
 {
     struct term longest = nested(63), longer = nested(64);
     struct term unknown = codes("02"), early = codes("30 00"), left_over = codes("00 00"), unjudged = codes("00 FF");
-    expect(e, "L", refusal_of_term(e, &longest) == 0);
-    expect(e, "L", refusal_of_term(e, &longer) == 1);
-    expect(e, "L", refusal_of_term(e, &unknown) == 2);
-    expect(e, "L", refusal_of_term(e, &early) == 3);
-    expect(e, "L", refusal_of_term(e, &left_over) == 4);
-    expect(e, "L", refusal_of_term(e, &unjudged) == 4);
+    expect(e, "L", refusal_of_term(e, 2, &longest) == 0);
+    expect(e, "L", refusal_of_term(e, 2, &longer) == 1);
+    expect(e, "L", refusal_of_term(e, 2, &unknown) == 2);
+    expect(e, "L", refusal_of_term(e, 2, &early) == 3);
+    expect(e, "L", refusal_of_term(e, 2, &left_over) == 4);
+    expect(e, "L", refusal_of_term(e, 2, &unjudged) == 4);
     expect(e, "L", asked_of_length(e, 0) == refused(10));
     expect(e, "L", asked_of_length(e, 513) == refused(10));
     expect(e, "L", asked_of_length(e, 33792) == refused(10));
@@ -245,24 +253,35 @@ static bool three_of_two_halves(unsigned coalition)
     return members(coalition) == 3 && members(coalition % 8) != 0 && members(coalition % 8) != 3;
 }
 
+static bool three_of_each_six(unsigned coalition)
+{
+    return three_of_two_halves(coalition % 64) && three_of_two_halves(coalition / 64);
+}
+
+/* The coalitions of twelve names that `minimal` says, ascending, are those of a term on both sides. */
+static bool short_form_lists(const struct engine *e, const struct term *t, unsigned count, bool minimal(unsigned))
+{
+    static uint8_t expected[SHORT_FORM_LEAST];
+    size_t end = 0;
+    for (unsigned side = SEE; side <= CHANGE; side++) {
+        expected[end++] = (uint8_t)(count / 256);
+        expected[end++] = (uint8_t)(count % 256);
+        for (unsigned c = 0; c < 1u << NAMES; c++)
+            if (minimal(c)) {
+                expected[end++] = (uint8_t)(c / 256);
+                expected[end++] = (uint8_t)(c % 256);
+            }
+    }
+    return end == 4 + 4 * count && leaves(e->short_form, NAMES, t, SHORT_FORM_LEAST, (uint32_t)end, expected, end);
+}
+
 /* Of each six names one of a half and two of the other half, or the reverse: by 63 codes 18 x 18 minimal coalitions
  * on each side. */
 static void case_of_many_coalitions(const struct engine *e)
 {
     struct term t = codes("30 31 30 31 31 00 01 02 31 30 03 04 30 05 31 03 04 30 31 30 00 01 30 02 31 00 01 31 31 03 04 05 "
                           "31 30 31 31 06 07 08 31 30 09 0A 30 0B 31 09 0A 30 31 30 06 07 30 08 31 06 07 31 31 09 0A 0B");
-    static uint8_t expected[SHORT_FORM_LEAST];
-    size_t end = 0;
-    for (unsigned side = SEE; side <= CHANGE; side++) {
-        expected[end++] = 324 / 256;
-        expected[end++] = 324 % 256;
-        for (unsigned c = 0; c < 1u << NAMES; c++)
-            if (three_of_two_halves(c % 64) && three_of_two_halves(c / 64)) {
-                expected[end++] = (uint8_t)(c / 256);
-                expected[end++] = (uint8_t)(c % 256);
-            }
-    }
-    expect(e, "K12", leaves(e->short_form, NAMES, &t, SHORT_FORM_LEAST, (uint32_t)end, expected, end));
+    expect(e, "K12", short_form_lists(e, &t, 324, three_of_each_six));
 }
 
 /* ---- K1: a written notation ---- */
@@ -277,29 +296,30 @@ static struct term text(const char *start, unsigned times, char more)
     return t;
 }
 
-static void reads(const struct engine *e, uint64_t n, const char *start, const char *expected)
+static void reads(const struct engine *e, const char *letter, uint64_t n, const char *start, const char *expected)
 {
     struct term t = text(start, 0, 0), bytes = codes(expected);
-    expect(e, "K1", writes(e->read_text, n, &t, CODES, &bytes));
+    expect(e, letter, writes(e->read_text, n, &t, CODES, &bytes));
 }
 
-static void refuses_text(const struct engine *e, uint64_t n, struct term t, size_t buffer_length, unsigned refusal)
+static void refuses_text(const struct engine *e, const char *letter, uint64_t n, struct term t, size_t buffer_length,
+                         unsigned refusal)
 {
-    expect(e, "K1", refuses(e->read_text, n, &t, buffer_length, refusal));
+    expect(e, letter, refuses(e->read_text, n, &t, buffer_length, refusal));
 }
 
 static void cases_of_reading(const struct engine *e)
 {
     static const char *const no_texts[] = {"c", "()", "a&", ">a", "a b", "A", "(a", "a)", "\xE1", "a\n"};
-    reads(e, 3, "a|b|c", "31 31 00 01 02");
-    reads(e, 3, "a|(b|c)", "31 00 31 01 02");
-    reads(e, 3, "a|b&c", "31 00 30 01 02");
-    reads(e, 2, "a&b>", "30 00 40 01");
-    reads(e, 2, "(a&b)><", "41 40 30 00 01");
-    reads(e, 12, "*&l|_", "31 30 20 0B 21");
+    reads(e, "K1", 3, "a|b|c", "31 31 00 01 02");
+    reads(e, "K1", 3, "a|(b|c)", "31 00 31 01 02");
+    reads(e, "K1", 3, "a|b&c", "31 00 30 01 02");
+    reads(e, "K1", 2, "a&b>", "30 00 40 01");
+    reads(e, "K1", 2, "(a&b)><", "41 40 30 00 01");
+    reads(e, "K1", 12, "*&l|_", "31 30 20 0B 21");
     for (unsigned i = 0; i < sizeof no_texts / sizeof *no_texts; i++)
-        refuses_text(e, 2, text(no_texts[i], 0, 0), CODES, 82);
-    refuses_text(e, 12, text("m", 0, 0), CODES, 82);
+        refuses_text(e, "K1", 2, text(no_texts[i], 0, 0), CODES, 82);
+    refuses_text(e, "K1", 12, text("m", 0, 0), CODES, 82);
 }
 
 /* Lengths of texts, of codes and of buffers, and which refusal comes first. */
@@ -308,18 +328,18 @@ static void cases_of_lengths_read(const struct engine *e)
     struct term longest = text("a", 63, '>'), expected = nested(63), spoiled = text("a", 64, '>'), empty = {0};
     expect(e, "K1", writes(e->read_text, 1, &longest, CODES, &expected));
     put_code(&spoiled, '&');
-    refuses_text(e, 1, spoiled, CODES, 82);
-    refuses_text(e, 1, text("&a", 64, '>'), CODES, 82);
-    refuses_text(e, 1, text("a", 64, '>'), CODES, 83);
-    refuses_text(e, 1, text("a", 255, '>'), CODES, 83);
-    refuses_text(e, 1, text("a", 256, '>'), CODES, 81);
-    refuses_text(e, 1, text("", 257, ')'), CODES, 81);
-    refuses_text(e, 1, empty, CODES, 81);
-    refuses_text(e, 1, text("a", 0, 0), CODES - 1, 81);
-    refuses_text(e, 1, text("a", 0, 0), CODES + 1, 81);
-    refuses_text(e, 0, empty, CODES, 7);
-    refuses_text(e, 13, empty, CODES, 7);
-    refuses_text(e, 0, empty, CODES + 1, 7);
+    refuses_text(e, "K1", 1, spoiled, CODES, 82);
+    refuses_text(e, "K1", 1, text("&a", 64, '>'), CODES, 82);
+    refuses_text(e, "K1", 1, text("a", 64, '>'), CODES, 83);
+    refuses_text(e, "K1", 1, text("a", 255, '>'), CODES, 83);
+    refuses_text(e, "K1", 1, text("a", 256, '>'), CODES, 81);
+    refuses_text(e, "K1", 1, text("", 257, ')'), CODES, 81);
+    refuses_text(e, "K1", 1, empty, CODES, 81);
+    refuses_text(e, "K1", 1, text("a", 0, 0), CODES - 1, 81);
+    refuses_text(e, "K1", 1, text("a", 0, 0), CODES + 1, 81);
+    refuses_text(e, "K1", 0, empty, CODES, 7);
+    refuses_text(e, "K1", 13, empty, CODES, 7);
+    refuses_text(e, "K1", 0, empty, CODES + 1, 7);
 }
 
 /* 256 characters and two codes: a in 127 brackets, and a sign. */
@@ -333,43 +353,44 @@ static void case_of_brackets(const struct engine *e)
 }
 
 /* The term is written as this text, and the text is read to the term. */
-static void both_ways(const struct engine *e, uint64_t n, const char *term, const char *expected)
+static void both_ways(const struct engine *e, const char *letter, uint64_t n, const char *term, const char *expected)
 {
     struct term t = codes(term), characters = text(expected, 0, 0);
-    expect(e, "K1", writes(e->write_term, n, &t, TEXT_MOST, &characters));
-    reads(e, n, expected, term);
+    expect(e, letter, writes(e->write_term, n, &t, TEXT_MOST, &characters));
+    reads(e, letter, n, expected, term);
 }
 
-static void refuses_term(const struct engine *e, uint64_t n, const char *term, size_t buffer_length, unsigned refusal)
+static void refuses_term(const struct engine *e, const char *letter, uint64_t n, const char *term,
+                         size_t buffer_length, unsigned refusal)
 {
     struct term t = codes(term);
-    expect(e, "K1", refuses(e->write_term, n, &t, buffer_length, refusal));
+    expect(e, letter, refuses(e->write_term, n, &t, buffer_length, refusal));
 }
 
 static void cases_of_writing(const struct engine *e)
 {
     struct term longest = nested(63), expected = text("a", 63, '>'), longer = nested(64);
-    both_ways(e, 3, "30 31 00 01 02", "(a|b)&c");
-    both_ways(e, 3, "30 00 30 01 02", "a&(b&c)");
-    both_ways(e, 3, "31 31 00 01 02", "a|b|c");
-    both_ways(e, 2, "40 41 00", "a<>");
-    both_ways(e, 3, "30 00 31 01 02", "a&(b|c)");
-    both_ways(e, 3, "31 00 31 01 02", "a|(b|c)");
-    both_ways(e, 3, "30 30 00 01 02", "a&b&c");
-    both_ways(e, 4, "31 30 00 01 30 02 03", "a&b|c&d");
-    both_ways(e, 2, "40 30 00 01", "(a&b)>");
-    both_ways(e, 2, "41 31 20 21", "(*|_)<");
+    both_ways(e, "K1", 3, "30 31 00 01 02", "(a|b)&c");
+    both_ways(e, "K1", 3, "30 00 30 01 02", "a&(b&c)");
+    both_ways(e, "K1", 3, "31 31 00 01 02", "a|b|c");
+    both_ways(e, "K1", 2, "40 41 00", "a<>");
+    both_ways(e, "K1", 3, "30 00 31 01 02", "a&(b|c)");
+    both_ways(e, "K1", 3, "31 00 31 01 02", "a|(b|c)");
+    both_ways(e, "K1", 3, "30 30 00 01 02", "a&b&c");
+    both_ways(e, "K1", 4, "31 30 00 01 30 02 03", "a&b|c&d");
+    both_ways(e, "K1", 2, "40 30 00 01", "(a&b)>");
+    both_ways(e, "K1", 2, "41 31 20 21", "(*|_)<");
     expect(e, "K1", writes(e->write_term, 1, &longest, TEXT_MOST, &expected));
     expect(e, "K1", refuses(e->write_term, 1, &longer, TEXT_MOST, 1));
-    refuses_term(e, 2, "", TEXT_MOST, 1);
-    refuses_term(e, 2, "02", TEXT_MOST, 2);
-    refuses_term(e, 2, "30 00", TEXT_MOST, 3);
-    refuses_term(e, 2, "00 00", TEXT_MOST, 4);
-    refuses_term(e, 2, "00", TEXT_MOST - 1, 81);
-    refuses_term(e, 2, "00", TEXT_MOST + 1, 81);
-    refuses_term(e, 2, "FF", TEXT_MOST - 1, 81);
-    refuses_term(e, 0, "00", TEXT_MOST - 1, 7);
-    refuses_term(e, 13, "00", TEXT_MOST, 7);
+    refuses_term(e, "K1", 2, "", TEXT_MOST, 1);
+    refuses_term(e, "K1", 2, "02", TEXT_MOST, 2);
+    refuses_term(e, "K1", 2, "30 00", TEXT_MOST, 3);
+    refuses_term(e, "K1", 2, "00 00", TEXT_MOST, 4);
+    refuses_term(e, "K1", 2, "00", TEXT_MOST - 1, 81);
+    refuses_term(e, "K1", 2, "00", TEXT_MOST + 1, 81);
+    refuses_term(e, "K1", 2, "FF", TEXT_MOST - 1, 81);
+    refuses_term(e, "K1", 0, "00", TEXT_MOST - 1, 7);
+    refuses_term(e, "K1", 13, "00", TEXT_MOST, 7);
 }
 
 /* ---- K2: grants with a first and last day ---- */
@@ -751,6 +772,274 @@ static void cases_of_refused_tests(const struct engine *e)
     expect(e, "K3", tested_on(e, &l, "21", SOME_DAY, SEE, 1) == refused(14));
 }
 
+/* ---- K4: quorums ---- */
+
+/* A missing k or m comes before the range, and that before the parts, of which the first bad one counts. */
+static void cases_of_refused_quorums(const struct engine *e)
+{
+    static const struct {
+        unsigned refusal;
+        const char *term;
+    } cases[] = {
+        {3, "32"},
+        {3, "32 00"},
+        {3, "32 FF"},
+        {3, "32 0D"},
+        {3, "32 32"},
+        {3, "32 01 01"},
+        {3, "30 32 00"},
+        {3, "40 32 02"},
+        {3, "30 00 32 01"},
+        {3, "32 02 03 00 01"},
+        {3, "32 01 02 32 01 01 00"},
+        {2, "32 00 05"},
+        {2, "32 03 02 00 01"},
+        {2, "32 01 0D"},
+        {2, "32 00 00"},
+        {2, "32 01 00"},
+        {2, "32 00 01 00"},
+        {2, "32 02 01 00"},
+        {2, "32 FF FF"},
+        {2, "32 0D 0D"},
+        {2, "32 30 31 00 01"},
+        {2, "32 01 FF 00"},
+        {2, "32 01 0D 00 00 00 00 00 00 00 00 00 00 00 00 00"},
+        {2, "32 02 03 FF"},
+        {2, "32 02 03 00 03"},
+        {2, "32 01 02 03 32"},
+        {2, "32 01 02 00 32 02 01"},
+        {4, "32 01 02 00 01 32"},
+        {4, "32 01 01 00 00"},
+        {4, "32 02 02 00 01 02"},
+    };
+    for (unsigned i = 0; i < sizeof cases / sizeof *cases; i++) {
+        struct term t = codes(cases[i].term);
+        expect(e, "K4", refusal_of_term(e, 3, &t) == cases[i].refusal);
+        refuses_term(e, "K4", 3, cases[i].term, TEXT_MOST, cases[i].refusal);
+    }
+}
+
+/* So many quorums 1:1, one in another: three codes each, and a name. */
+static struct term nested_quorums(unsigned quorums)
+{
+    struct term term = {0};
+    while (quorums-- > 0)
+        put_quorum(&term, 1, 1);
+    put_code(&term, 0);
+    return term;
+}
+
+/* The same as a text. */
+static struct term text_of_quorums(unsigned quorums)
+{
+    struct term t = {0}, one = text("1:1(", 0, 0);
+    for (unsigned i = 0; i < quorums; i++)
+        put_term(&t, &one);
+    put_code(&t, 'a');
+    put_codes(&t, ')', quorums);
+    return t;
+}
+
+/* k and m count towards the 64 codes. */
+static void cases_of_length_of_quorums(const struct engine *e)
+{
+    struct term longest = nested_quorums(21), longer = prefixed(SEE_OF, &longest);
+    struct term expected = text_of_quorums(21), spoiled = expected;
+    expect(e, "K4", longest.length == CODES && refusal_of_term(e, 1, &longest) == 0);
+    expect(e, "K4", refusal_of_term(e, 1, &longer) == 1);
+    expect(e, "K4", writes(e->write_term, 1, &longest, TEXT_MOST, &expected));
+    expect(e, "K4", writes(e->read_text, 1, &expected, CODES, &longest));
+    put_code(&spoiled, '>');
+    refuses_text(e, "K4", 1, spoiled, CODES, 83);
+    put_code(&spoiled, ',');
+    refuses_text(e, "K4", 1, spoiled, CODES, 82);
+    refuses_text(e, "K4", 1, text_of_quorums(51), CODES, 83);
+}
+
+/* By place, so that equal parts count each, and on each side for itself. */
+static void cases_of_short_forms_of_quorums(const struct engine *e)
+{
+    expect(e, "K4", short_form_is(e, 3, "32 02 03 00 01 02", "00 03 00 03 00 05 00 06 00 03 00 03 00 05 00 06"));
+    expect(e, "K4", short_form_is(e, 3, "32 01 03 00 01 02", "00 03 00 01 00 02 00 04 00 03 00 01 00 02 00 04"));
+    expect(e, "K4", short_form_is(e, 3, "32 03 03 00 01 02", "00 01 00 07 00 01 00 07"));
+    expect(e, "K4", short_form_is(e, 2, "32 02 03 00 00 01", "00 01 00 01 00 01 00 01"));
+    expect(e, "K4", short_form_is(e, 2, "32 02 02 00 00", "00 01 00 01 00 01 00 01"));
+    expect(e, "K4", short_form_is(e, 1, "32 01 01 00", "00 01 00 01 00 01 00 01"));
+    expect(e, "K4", short_form_is(e, 1, "32 01 01 20", "00 00 00 00"));
+    expect(e, "K4", short_form_is(e, 1, "32 02 03 20 21 21", "00 01 00 00 00 01 00 00"));
+    expect(e, "K4", short_form_is(e, 2, "32 02 02 40 00 40 01", "00 01 00 03 00 01 00 00"));
+    expect(e, "K4", short_form_is(e, 3, "32 02 03 40 00 41 01 02", "00 02 00 01 00 04 00 02 00 02 00 04"));
+    expect(e, "K4", short_form_is(e, 3, "41 32 02 03 00 01 02", "00 01 00 00 00 03 00 03 00 05 00 06"));
+    expect(e, "K4", short_form_is(e, 3, "32 02 03 32 01 02 00 01 30 01 02 02", "00 02 00 05 00 06 00 02 00 05 00 06"));
+}
+
+static bool of_six_members(unsigned coalition)
+{
+    return members(coalition) == 6;
+}
+
+/* Any six of twelve names: the longest short form. */
+static void case_of_six_of_twelve(const struct engine *e)
+{
+    struct term t = codes("32 06 0C 00 01 02 03 04 05 06 07 08 09 0A 0B");
+    expect(e, "K4", short_form_lists(e, &t, 924, of_six_members));
+}
+
+static void cases_of_reading_quorums(const struct engine *e)
+{
+    static const char *const no_texts[] = {
+        "2:3(a,b)",   "02:3(a,b,c)", "4:3(a,b,c)", "2:2(a,b,)",   "0:1(a)",  "2:03(a,b,c)", "0:0()",   "1:0()",
+        "1:1()",      "1:2(a,)",     "1:2(,a)",    "2:3(a,b,c,a)", "2:3(a,b,c", "2:3a,b,c",  "2:3",     "2",
+        "2:(a)",      ":3(a,b,c)",   "3(a,b,c)",   "1:1(d)",      "1:1(a)b", "a1:1(a)",     "1 :1(a)", "+1:1(a)",
+        "2:3((a,b),c)", "2:2(a;b)",  "a,b",        "(a,b)",       "1:1>(a)", "1:1(a,)",     "257:1(a)", "1:257(a)",
+        "1:13(a,a,a,a,a,a,a,a,a,a,a,a,a)", "13:13(a,a,a,a,a,a,a,a,a,a,a,a,a)",
+    };
+    reads(e, "K4", 3, "2:3(a|b,c&a>,_)<&b", "30 41 32 02 03 31 00 01 30 02 40 00 21 01");
+    reads(e, "K4", 3, "(2:2(((a)),(b|c)>))", "32 02 02 00 40 31 01 02");
+    for (unsigned i = 0; i < sizeof no_texts / sizeof *no_texts; i++)
+        refuses_text(e, "K4", 3, text(no_texts[i], 0, 0), CODES, 82);
+}
+
+/* Without brackets around a quorum or its parts. */
+static void cases_of_writing_quorums(const struct engine *e)
+{
+    both_ways(e, "K4", 3, "40 32 02 03 31 00 01 40 02 30 00 21", "2:3(a|b,c>,a&_)>");
+    both_ways(e, "K4", 3, "32 01 01 00", "1:1(a)");
+    both_ways(e, "K4", 3, "30 00 32 02 02 01 02", "a&2:2(b,c)");
+    both_ways(e, "K4", 3, "31 32 01 02 00 01 31 32 01 01 02 00", "1:2(a,b)|(1:1(c)|a)");
+    both_ways(e, "K4", 3, "41 40 32 01 01 31 00 31 01 02", "1:1(a|(b|c))><");
+    both_ways(e, "K4", 3, "32 01 02 32 02 02 00 01 30 30 00 01 30 01 02", "1:2(2:2(a,b),a&b&(b&c))");
+    both_ways(e, "K4", 12, "32 0A 0B 00 01 02 03 04 05 06 07 08 09 0A", "10:11(a,b,c,d,e,f,g,h,i,j,k)");
+    both_ways(e, "K4", 12, "32 09 0C 20 21 02 03 04 05 06 07 08 09 0A 0B", "9:12(*,_,c,d,e,f,g,h,i,j,k,l)");
+}
+
+/* 64 codes are written as at most 132 characters, these as just so many. */
+static void case_of_longest_text(const struct engine *e)
+{
+    static const char longest[] = "10:10(a,a,a,a,a,a,a,a,a,10:10(a,a,a,a,a,a,a,a,a,10:10(a,a,a,a,a,a,a,a,a,"
+                                  "11:11(a,a,a,a,a,a,a,a,a,a,12:12(a,a,a,a,a,a,a,a,a,a,a,a)))))";
+    expect(e, "K4", sizeof longest - 1 == 132);
+    both_ways(e, "K4", 1,
+              "32 0A 0A 00 00 00 00 00 00 00 00 00 32 0A 0A 00 00 00 00 00 00 00 00 00 "
+              "32 0A 0A 00 00 00 00 00 00 00 00 00 32 0B 0B 00 00 00 00 00 00 00 00 00 00 "
+              "32 0C 0C 00 00 00 00 00 00 00 00 00 00 00 00",
+              longest);
+}
+
+static const char any_two[] = "32 02 03 00 01 02";
+
+static void asks_statically(const struct engine *e, const char *p, const char *q, uint32_t expected)
+{
+    struct ledger ledger;
+    start_ledger(&ledger, 4);
+    expect(e, "K4", ask(e->acts_for, &ledger, p, q, "21") == expected);
+}
+
+static void cases_of_static_quorums(const struct engine *e)
+{
+    asks_statically(e, "30 00 01", any_two, yes());
+    asks_statically(e, "30 00 30 01 02", any_two, yes());
+    asks_statically(e, "00", any_two, no_on_see_side(1));
+    asks_statically(e, "31 30 00 01 31 30 00 02 30 01 02", any_two, yes());
+    asks_statically(e, any_two, "31 30 00 01 31 30 00 02 30 01 02", yes());
+    asks_statically(e, any_two, "00", no_on_see_side(6));
+    asks_statically(e, any_two, "32 01 03 02 01 00", yes());
+    asks_statically(e, any_two, "32 03 03 00 01 02", no_on_see_side(3));
+    asks_statically(e, "32 03 03 00 01 02", any_two, yes());
+    asks_statically(e, "00", "32 02 03 00 00 01", yes());
+    asks_statically(e, "32 02 02 41 00 41 01", "41 30 00 01", yes());
+    asks_statically(e, "41 30 00 01", "32 02 02 41 00 41 01", yes());
+    asks_statically(e, "32 01 02 41 00 41 01", "41 00", no_on_change_side(2));
+    asks_statically(e, "32 00 03 00 01 02", "00", refused(22));
+    asks_statically(e, "00", "32 02", refused(33));
+}
+
+/* The label under which the grant of the editors counts. */
+static const char owners_word[] = "41 03";
+
+/* Any two of three editors act for name 3, which owns the page. */
+static struct ledger editors(void)
+{
+    struct ledger ledger;
+    start_ledger(&ledger, 4);
+    put_grant(&ledger, any_two, "03", owners_word);
+    return ledger;
+}
+
+static void asks_editors(const struct engine *e, const char *p, uint32_t expected)
+{
+    struct ledger l = editors();
+    expect(e, "K4", ask(e->acts_for, &l, p, "03", owners_word) == expected);
+}
+
+static void cases_of_editors(const struct engine *e)
+{
+    struct ledger l = editors();
+    asks_editors(e, "30 00 01", yes());
+    asks_editors(e, "30 00 02", yes());
+    asks_editors(e, "30 01 02", yes());
+    asks_editors(e, "30 00 30 01 02", yes());
+    asks_editors(e, any_two, yes());
+    asks_editors(e, "00", no_on_see_side(1));
+    asks_editors(e, "01", no_on_see_side(2));
+    asks_editors(e, "31 00 32 02 02 01 02", no_on_see_side(1));
+    expect(e, "K4", ask(e->acts_for, &l, "30 00 01", "03", "00") == no_on_see_side(3));
+    expect(e, "K4", ask(e->flows_to, &l, "41 30 00 01", owners_word, owners_word) == yes());
+    expect(e, "K4", ask(e->flows_to, &l, "40 03", "40 32 02 02 00 02", owners_word) == yes());
+    expect(e, "K4", ask(e->flows_to, &l, "40 03", "40 00", owners_word) == no_on_see_side(1));
+    expect(e, "K4", extract_of_two(e, &l, owners_word, SOME_DAY, 0x17, 0xFF));
+    expect(e, "K4", tested_on(e, &l, owners_word, SOME_DAY, SEE, 3) == broken(1));
+    expect(e, "K4", tested_on(e, &l, owners_word, SOME_DAY, CHANGE, 7) == broken(1));
+    expect(e, "K4", tested_on(e, &l, owners_word, SOME_DAY, CHANGE, 4) == sound(1));
+    expect(e, "K4", tested_on(e, &l, owners_word, SOME_DAY, SEE, 11) == sound(1));
+    put_byte(&l, 1, 17, 0x00); /* k */
+    expect(e, "K4", ask(e->acts_for, &l, any_two, "03", owners_word) == refused(14));
+}
+
+/* Name 3 acts for any two of the editors, said under a quorum of their words. */
+static uint32_t asked_for_quorum(const struct engine *e, const char *grant_label, const char *label)
+{
+    struct ledger ledger;
+    start_ledger(&ledger, 4);
+    put_grant(&ledger, "03", any_two, grant_label);
+    return ask(e->acts_for, &ledger, "03", any_two, label);
+}
+
+/* Fewer of them don't speak for two, and under the word of more the grant isn't visible. */
+static void cases_of_words_of_quorums(const struct engine *e)
+{
+    static const char one[] = "41 32 01 03 00 01 02", two[] = "41 32 02 03 00 01 02", three[] = "41 32 03 03 00 01 02";
+    expect(e, "K4", asked_for_quorum(e, two, two) == yes());
+    expect(e, "K4", asked_for_quorum(e, two, one) == yes());
+    expect(e, "K4", asked_for_quorum(e, two, three) == no_on_see_side(8));
+    expect(e, "K4", asked_for_quorum(e, three, two) == yes());
+    expect(e, "K4", asked_for_quorum(e, one, one) == no_on_see_side(8));
+    expect(e, "K4", asked_for_quorum(e, two, "32 03 02") == refused(42));
+    expect(e, "K4", asked_for_quorum(e, "41 32 04 03 00 01 02", two) == refused(14));
+}
+
+/* p for any two of the editors by rule 1, these for name 3 by the grant, so p for name 3. */
+static uint32_t derived_by_editors(const struct engine *e, const char *p)
+{
+    struct derivation d = {0};
+    struct ledger l = editors();
+    struct term first = codes(p), two = codes(any_two), owner = codes("03"), label = codes(owners_word);
+    add_step(&d, 1, 0, 0, 0, &first, &two);
+    add_step(&d, 2, 0, 0, 0, &two, &owner);
+    add_step(&d, 3, 0, 1, 0, &first, &owner);
+    return e->check_derivation(d.bytes, d.length, l.bytes, l.length, label.codes, label.length, SOME_DAY);
+}
+
+static void cases_of_derived_quorums(const struct engine *e)
+{
+    expect(e, "K4", derived_by_editors(e, "30 00 01") == yes());
+    expect(e, "K4", derived_by_editors(e, "32 03 03 02 01 00") == yes());
+    expect(e, "K4", derived_by_editors(e, "00") == refused(67));
+    expect(e, "K4", derived_by_editors(e, "32 01 03 00 01 02") == refused(67));
+    expect(e, "K4", derived_by_editors(e, "32 01 0D 00 01 02") == refused(62));
+    expect(e, "K4", derived_by_editors(e, "32 01") == refused(62));
+}
+
 static void all_cases(const struct engine *e)
 {
     checks_of_the_ledgers(e);
@@ -782,6 +1071,17 @@ static void all_cases(const struct engine *e)
     cases_of_other_bits(e);
     cases_of_counting(e);
     cases_of_refused_tests(e);
+    cases_of_refused_quorums(e);
+    cases_of_length_of_quorums(e);
+    cases_of_short_forms_of_quorums(e);
+    case_of_six_of_twelve(e);
+    cases_of_reading_quorums(e);
+    cases_of_writing_quorums(e);
+    case_of_longest_text(e);
+    cases_of_static_quorums(e);
+    cases_of_editors(e);
+    cases_of_words_of_quorums(e);
+    cases_of_derived_quorums(e);
 }
 
 int main(void)
@@ -790,6 +1090,6 @@ int main(void)
     all_cases(&library_engine);
     if (failures)
         return 1;
-    puts("worked cases A to L, K12, K1, K2 and K3: same, by the reference and by the library");
+    puts("worked cases A to L, K12, K1, K2, K3 and K4: same, by the reference and by the library");
     return 0;
 }

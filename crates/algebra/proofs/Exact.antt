@@ -68,7 +68,7 @@ flows_to_terms n G p q fit pn qn =
 
 -- without grants
 none_below : (n : ℕ) → GrantsBelow n []
-none_below n g m = absurd (Memᴰ.not_nil m)
+none_below n g m = absurd (Memᴰ.not-nil m)
 
 within_carries : (n : ℕ) (s : Side) (p q : Marks) → (within n (p s) (q s) ≡ true) ↔ Carries n [] s p q
 unfolding sound

@@ -160,7 +160,7 @@ side_acts confidentiality (crossed confidentiality p) = self
 side_acts confidentiality (crossed integrity p) = self
 side_acts integrity (crossed confidentiality p) = self
 side_acts integrity (crossed integrity p) = self
-side_acts s (grant m) = absurd (Memᴰ.not_nil m)
+side_acts s (grant m) = absurd (Memᴰ.not-nil m)
 
 voice_acts : {p q : Principal} → ActsFor [] p q → ActsFor [] (voice_of p) (voice_of q)
 unfolding voice_of

@@ -1,4 +1,6 @@
 // FLAM's principal algebra and document 01's coalitions: what the one derives is what the other decides.
+#![tactic(auto)]
+
 pub mod rules;
 
 ghost use Rattle.algebra.specs.Algebra.{HeldWhereMeant, ActsForByCoalitions, FlowsToByCoalitions, StaticIsActsFor, VisibleIsFlowsTo, SpokenIsActsForVoice, NormalForms, VoiceOfNormalForms, VoiceIsHeld, DefinitionsOneAndTwo, YesIsActsFor, YesIsFlowsTo};

@@ -1,5 +1,7 @@
 // The bytes of a live ledger (document 02, K5): in front stands the written ledger of the blocks held, block 0 and then theirs, so that all that reads a
 // ledger reads it; what follows is left as it was.
+#![tactic(auto)]
+
 ghost use Rattle.std.specs.Prelude.{◌≡◌, List, [], ◌∷◌, ◌++◌, ℕ, ◌+◌, ◌≤◌, ◌<◌, length, drop};
 ghost use Rattle.std.proofs.Math.Seq.{paste};
 ghost use Rattle.model.specs.Live.{dropped_at};

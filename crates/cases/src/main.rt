@@ -1,5 +1,7 @@
 // The test program: document 01's cases K and L, and R, calls with random ledgers and the results of another implementation,
 // from the file `calls` (tests/make_cases.c writes it and says how it is laid out). It prints a line for each case.
+#![tactic(auto)]
+
 ghost use Rattle.std.specs.Prelude.{◌≡◌, true, ◌++◌, ◌+◌, ◌-◌, ◌≤◌, ◌<◌, length, replicate};
 ghost use Rattle.model.specs.Bytes.{field, two_bytes, four_bytes};
 ghost use Rattle.cases.specs.Records.{eight_bytes, input_length, input_start, Whole, Within};
@@ -273,7 +275,7 @@ fn case_l() -> bool {
 
 // Case R: unpacking a record.
 
-#[derive(Drop)]
+#[derive(Clone, Copy)]
 enum Run {
     // How many packed bytes it has, and how many bytes it stands for.
     Sizes(usize, usize),
@@ -574,7 +576,7 @@ fn agrees(unpacked: &[u8], space: &mut [u8]) -> bool {
 
 // Case R: the file.
 
-#[derive(Drop)]
+#[derive(Clone, Copy)]
 enum Compared {
     Same,
     Differs,

@@ -1,4 +1,6 @@
 // The check of a block: the weighted sum of its bytes, made by columns, beside the number that the block ends with (document 01, "The ledger").
+#![tactic(auto)]
+
 ghost use Rattle.std.specs.Prelude.{◌≡◌, ◌+◌, ◌*◌, ◌≤◌, length, take};
 ghost use Rattle.model.specs.Ledgers.{weighted};
 ghost use Rattle.checks.specs.Columns.{total, added, Columns};

@@ -1,4 +1,6 @@
 // Which grants count under a label, on a day (document 01, "Grants that count"; document 02, K2).
+#![tactic(auto)]
+
 ghost use Rattle.std.specs.Prelude.{◌≡◌, ◌≤◌, ◌<◌};
 ghost use Rattle.model.specs.Coalitions.{member, mark};
 ghost use Rattle.words.specs.FourWords.{RowAt};
@@ -153,7 +155,7 @@ pub fn counted(ledger: &[u8], n: u64, grants: usize, label: &[u8], day: u32) -> 
 }
 
 // What is known of the grants: bit k of `unjudged` is set until grant k is judged, and bit k of `possible` until it is known not to count.
-#[derive(Drop)]
+#[derive(Clone, Copy)]
 pub struct Known {
     pub unjudged: u64,
     pub possible: u64,

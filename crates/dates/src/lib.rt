@@ -1,4 +1,6 @@
 // Dates (document 02, K2): which are real, adding days, and the days of a grant. A date is year × 10,000 + month × 100 + day.
+#![tactic(auto)]
+
 ghost use Rattle.std.specs.Prelude.{◌≡◌, ◌<◌};
 ghost use Rattle.model.specs.Dates.{leap, days_in, real_date, next_day, days_later, add_days, date_or_none, in_order, in_days};
 ghost use Rattle.dates.specs.Sums.{sum_of};
@@ -69,7 +71,7 @@ fn next_day(date: u32) -> u32
 }
 
 // What adding days gives.
-#[derive(Drop)]
+#[derive(Clone, Copy)]
 pub enum Sum {
     Date(u32),
     // The number of the refusal, 86.

@@ -1,4 +1,6 @@
 // The derivation check, step by step, and quoting (document 01, "Derivations"), on a day (document 02, K2).
+#![tactic(auto)]
+
 ghost use Rattle.std.specs.Prelude.{◌≡◌, Bool, not, ◌||◌, ◌+◌, ◌*◌, ◌≤◌, ◌<◌, eqb, ltb, length};
 ghost use Rattle.model.specs.Bytes.{byte};
 ghost use Rattle.model.specs.Coalitions.{member};
@@ -126,7 +128,7 @@ fn read_field(step: &[u8], k: usize, at: usize, n: u64) -> TermReading
 }
 
 // What checking a step gives.
-#[derive(Drop)]
+#[derive(Clone, Copy)]
 enum StepCheck {
     Accepted,
     // The number of the refusal, 61 to 67.
@@ -276,7 +278,7 @@ fn step_refusal(check: StepCheck) -> u8
 }
 
 // What checking a derivation gives.
-#[derive(Drop)]
+#[derive(Clone, Copy)]
 pub enum Checked {
     Accepted,
     // The number of the refusal, of the day, the ledger, the label or the derivation's length.

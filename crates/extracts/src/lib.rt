@@ -1,4 +1,6 @@
 // The extract call (document 01, "Extract"), on a day (document 02, K2).
+#![tactic(auto)]
+
 ghost use Rattle.std.specs.Prelude.{◌≡◌, ◌+◌, ◌≤◌, ◌<◌, length};
 ghost use Rattle.std.proofs.Math.Seq.{paste};
 ghost use Rattle.model.specs.Extracts.{extract};
@@ -68,7 +70,7 @@ fn copy_half(half: &[u8; 512], buffer: &mut [u8], at: usize)
 }
 
 // What an extract call gives.
-#[derive(Drop)]
+#[derive(Clone, Copy)]
 pub enum Extracted {
     Written,
     // The number of the refusal: 86, 51, the ledger's 10 to 14, 84 and 85, the label's 41 to 44.

@@ -1,4 +1,6 @@
 // Fields of bytes, which ledgers and derivations are made of: numbers, parts, pieces of one size, filler (document 01, "The ledger" and "Derivations").
+#![tactic(auto)]
+
 ghost use Rattle.std.specs.Prelude.{◌≡◌, ◌*◌};
 ghost use Rattle.model.specs.Bytes.{byte, field, two_bytes, four_bytes, zeros, multiple_up_to};
 

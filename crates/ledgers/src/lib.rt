@@ -1,4 +1,6 @@
 // The ledger: the reader with its refusals, and the parts where the grants' terms stand.
+#![tactic(auto)]
+
 ghost use Rattle.std.specs.Prelude.{◌≡◌, ◌&&◌, ℕ, ◌+◌, ◌≤◌, ◌<◌, length};
 ghost use Rattle.model.specs.Bytes.{byte, field};
 ghost use Rattle.model.specs.Terms.{read_term};
@@ -92,7 +94,7 @@ fn grant_form(block: &[u8]) -> bool
 }
 
 // What reading a grant's block gives, or the blocks of all grants.
-#[derive(Drop)]
+#[derive(Clone, Copy)]
 pub enum GrantReading {
     Accepted,
     // The number of the refusal: 10 or 11 of a block by itself, 13, 14, 84 or 85.
@@ -100,7 +102,7 @@ pub enum GrantReading {
 }
 
 // What reading a ledger gives, alone or with the label that it is asked under.
-#[derive(Drop)]
+#[derive(Clone, Copy)]
 pub enum LedgerReading {
     // The number of names, and of grants.
     Accepted { names: u64, grants: usize },

@@ -1,5 +1,7 @@
 // The live ledger (document 02, K5): grants are added and withdrawn, and questions are answered from stored numbers, under one label and one day. Its head
 // is a value; what is large is lent: the bytes, whose front is the written ledger of the grants held, and the numbers.
+#![tactic(auto)]
+
 ghost use Rattle.std.specs.Prelude.{◌≡◌, List, ℕ, ◌≤◌, length};
 ghost use Rattle.std.proofs.Math.Seq.{paste};
 ghost use Rattle.model.specs.Live as model;
@@ -11,7 +13,7 @@ use ledgers::GrantReading;
 use questions::{Answer, Relation};
 use terms::TermReading;
 
-#[derive(Drop)]
+#[derive(Clone, Copy)]
 pub struct Live {
     pub names: u8,
     pub day: u32,
@@ -23,7 +25,7 @@ pub struct Live {
 }
 
 // What becomes of a call that alters a live ledger.
-#[derive(Drop)]
+#[derive(Clone, Copy)]
 pub enum Reply {
     Done,
     // The number of the refusal.
@@ -31,7 +33,7 @@ pub enum Reply {
 }
 
 // The head afterwards, and the reply.
-#[derive(Drop)]
+#[derive(Clone, Copy)]
 pub struct Changed {
     pub live: Live,
     pub reply: Reply,

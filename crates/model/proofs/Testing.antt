@@ -117,7 +117,7 @@ module _ (s : Side) (c : ℕ) where
             after = gs;
             are = refl;
             number = refl;
-            kept = λ d m. absurd (Memᴰ.not_nil m);
+            kept = λ d m. absurd (Memᴰ.not-nil m);
             holds_p = both.0;
             lacks_q = both.1;
           }

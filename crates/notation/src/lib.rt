@@ -1,10 +1,12 @@
 // Terms on paper (document 02, K1 and K4): texts are read to codes.
+#![tactic(auto)]
+
 ghost use Rattle.std.specs.Prelude.{◌≡◌, ◌+◌, ◌≤◌, length};
 ghost use Rattle.model.specs.Notation.{last_of, ends_in, read_number, opened, read_back, around_back, read_text};
 ghost use Rattle.notation.specs.Reading.{outcome_of, ending_of, numeral_of, backward, Room, Read, ReadBefore};
 
 // What a call gives, of reading and of writing.
-#[derive(Drop)]
+#[derive(Clone, Copy)]
 pub enum Noted {
     // How many bytes were written.
     Written(usize),
@@ -13,7 +15,7 @@ pub enum Noted {
 }
 
 // What a character is as the last of an atom.
-#[derive(Drop)]
+#[derive(Clone, Copy)]
 enum Ending {
     // A name below n, * or _: its code.
     Sole(u8),
@@ -24,7 +26,7 @@ enum Ending {
 }
 
 // What is read off the end of a text.
-#[derive(Drop)]
+#[derive(Clone, Copy)]
 enum Left {
     // How many characters are left before it, and where its codes start.
     Before(usize, usize),
@@ -68,7 +70,7 @@ fn ends_in(text: &[u8], end: usize, c: u8) -> bool
 }
 
 // A number at the end of a text.
-#[derive(Drop)]
+#[derive(Clone, Copy)]
 enum Numeral {
     // The number, and how many characters are left before it.
     Of(u8, usize),

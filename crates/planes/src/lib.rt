@@ -1,5 +1,7 @@
 // Numbers from 0 to 127, one for each side and coalition, kept as digits (document 02, K5): four words of 64 coalitions are a row, as in `words`, and a row
 // of numbers has a row for each of its seven digits. There are 32 rows of numbers: 16 of the see side, then 16 of the change side.
+#![tactic(auto)]
+
 ghost use Rattle.std.specs.Prelude.{◌≡◌, Bool, ◌&&◌, ℕ, ◌<◌, eqb};
 ghost use Rattle.std.specs.Int.Bits.{bit_xor};
 ghost use Rattle.words.specs.FourWords.{RowAt, each_word};

@@ -1,4 +1,6 @@
 // Acts-for and flows-to questions (document 01), on a day (document 02, K2): the coalitions that refute, the first of them, and the answer.
+#![tactic(auto)]
+
 ghost use Rattle.std.specs.Prelude.{◌≡◌, false, ◌&&◌, ◌≤◌, ◌<◌};
 ghost use Rattle.model.specs.Coalitions.{Marks, implies, at};
 ghost use Rattle.model.specs.Grants.{marks_of, keeps, acts_statically};
@@ -17,7 +19,7 @@ use terms::TermReading;
 use words::{Row, Rows, Side};
 
 // What a search for a refuter gives.
-#[derive(Drop)]
+#[derive(Clone, Copy)]
 pub enum Verdict {
     Holds,
     // The side and the coalition that refutes.
@@ -25,7 +27,7 @@ pub enum Verdict {
 }
 
 // The answer to a question.
-#[derive(Drop)]
+#[derive(Clone, Copy)]
 pub enum Answer {
     Yes,
     // The side and the coalition that refutes.
@@ -35,7 +37,7 @@ pub enum Answer {
 }
 
 // Which question: on the see side flows-to asks the other way round.
-#[derive(Drop)]
+#[derive(Clone, Copy)]
 pub enum Relation {
     ActsFor,
     FlowsTo,
@@ -122,7 +124,7 @@ pub fn further(found: Verdict, g: u64, left: Rows) -> Verdict
 }
 
 // What is left of two rows of refuters, and what is known of the grants.
-#[derive(Drop)]
+#[derive(Clone, Copy)]
 struct Sifted {
     left: Rows,
     known: Known,

@@ -1,5 +1,7 @@
 // The entry points for C (document 01: "The workflow program in C calls all of these but quoting"). Each asks nothing of its caller, calls one
 // proved function, and gives its answer as one number.
+#![tactic(auto)]
+
 ghost use Rattle.std.specs.Prelude.{◌≡◌};
 ghost use Rattle.model.specs.Answers.{number};
 ghost use Rattle.model.specs.Questions.{acts_for, flows_to};

@@ -1,4 +1,6 @@
 // What the rules of a derivation that compare bytes ask of a step's terms: rules 2 to 7 (document 01, "Derivations"). A part that is missing is shorter, or empty.
+#![tactic(auto)]
+
 ghost use Rattle.std.specs.Prelude.{◌≡◌, ◌&&◌, ◌∷◌, ◌++◌};
 ghost use Rattle.model.specs.Bytes.{same};
 ghost use Rattle.model.specs.Ledgers.{Ledger};

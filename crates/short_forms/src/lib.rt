@@ -1,4 +1,6 @@
 // Short forms: a term's minimal coalitions on each side (document 01, "Short form").
+#![tactic(auto)]
+
 ghost use Rattle.std.specs.Prelude.{◌≡◌, ◌+◌, ◌*◌, ◌≤◌, ◌<◌, length};
 ghost use Rattle.model.specs.Bytes.{big_endian};
 ghost use Rattle.model.specs.Coalitions.{packed};
@@ -10,7 +12,7 @@ ghost use Rattle.short_forms.specs.Listings.{outcome_of, marked, marked_without,
 
 use terms::TermReading;
 
-#[derive(Drop)]
+#[derive(Clone, Copy)]
 pub enum ShortForm {
     // The number of bytes.
     Written(usize),

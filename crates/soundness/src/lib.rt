@@ -1,5 +1,7 @@
 // Which coalitions keep the grants whose bits are set: the sound ones, where these are the grants that count (document 01, "Grants that count"). How many of
 // these grants a test takes (document 02, K3).
+#![tactic(auto)]
+
 ghost use Rattle.std.specs.Prelude.{◌≡◌, ◌&&◌, ◌*◌, ◌/◌, eqb};
 ghost use Rattle.model.specs.Coalitions.{Marks, mark, packed};
 ghost use Rattle.model.specs.Grants.{marks_of};
@@ -29,7 +31,7 @@ pub fn broken(ledger: &[u8], k: usize, g: u64, of: Rows) -> Rows
 }
 
 // Those of two rows that keep the grants they were tested against, and how many these were. The number stands first, as in `words::Held`.
-#[derive(Drop)]
+#[derive(Clone, Copy)]
 struct Kept {
     tested: usize,
     rows: Rows,
@@ -116,7 +118,7 @@ fn only(side: Side, c: u64) -> Rows
 }
 
 // What the test of a coalition on a side gives.
-#[derive(Drop)]
+#[derive(Clone, Copy)]
 pub struct Tested {
     pub sound: bool,
     // How many grants it was tested against: all, or up to and with the first that it breaks.

@@ -1,4 +1,6 @@
 // Sperner's bound on families of coalitions, none inside another (document 02, K12). Each theorem is what a function without parameters ensures.
+#![tactic(auto)]
+
 ghost use Rattle.std.specs.Prelude.{◌≡◌, min};
 ghost use Rattle.model.specs.Layers.{size, layer, largest_layer, room_for};
 ghost use Rattle.sperner.specs.Antichains.{SpernersBound, BoundReached, LayersAreBinomial, MiddleLayerIsLargest, TwelveNames, MinimalAntichain, ShortFormsFit};

@@ -1,5 +1,7 @@
 // The stored numbers of a live ledger (document 02, K5): for each side and coalition, how many counting grants it breaks. A grant's part is added and taken
 // away, and questions are judged by them: sound is number 0.
+#![tactic(auto)]
+
 ghost use Rattle.std.specs.Prelude.{◌≡◌, ◌&&◌, ℕ, ◌<◌, length};
 ghost use Rattle.model.specs.Coalitions.{Marks, mark};
 ghost use Rattle.model.specs.Grants.{marks_of, breaks, under};

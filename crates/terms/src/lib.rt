@@ -1,10 +1,12 @@
 // Reads terms: one byte for each code, operator first (document 01, "Terms").
+#![tactic(auto)]
+
 ghost use Rattle.std.specs.Prelude.{◌≡◌, true, ◌+◌};
 ghost use Rattle.model.specs.Terms.{quorate, code_of, read_term};
 ghost use Rattle.terms.specs.Readings.{shape_of, part_at, refusal_of, term_reading, term_refusal};
 
 // How many parts a code asks for.
-#[derive(Drop)]
+#[derive(Clone, Copy)]
 enum Shape {
     // A name below n, the strongest party or the weakest.
     Whole,
@@ -15,7 +17,7 @@ enum Shape {
 }
 
 // What reading one part gives.
-#[derive(Drop)]
+#[derive(Clone, Copy)]
 enum PartReading {
     // The place of the first code after the part.
     Next(usize),
@@ -24,7 +26,7 @@ enum PartReading {
 }
 
 // What reading a whole term gives.
-#[derive(Drop)]
+#[derive(Clone, Copy)]
 pub enum TermReading {
     Accepted,
     // The number of the refusal, 1 to 4.

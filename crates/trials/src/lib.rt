@@ -1,5 +1,7 @@
 // Exports for tests alone: calls of document 02 that the C program does not get. Each asks nothing of its caller, calls one proved function, and gives
 // its answer as one number, as the entry points of `rights` do.
+#![tactic(auto)]
+
 pub mod live_calls;
 
 ghost use Rattle.std.specs.Prelude.{◌≡◌, ◌≤◌};

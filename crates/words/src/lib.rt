@@ -1,4 +1,6 @@
 // Terms held at 256 coalitions at once (document 01, "Terms"): bit k of word j of row g is coalition 256 * g + 64 * j + k.
+#![tactic(auto)]
+
 ghost use Rattle.std.specs.Prelude.{◌≡◌, cond, ◌&&◌, ◌||◌, ◌+◌, ◌*◌, ◌^◌, ◌≤◌, ◌<◌, eqb, ltb, length, get_or};
 ghost use Rattle.std.specs.Int.Bits.{bit_and, bit_or};
 ghost use Rattle.model.specs.Sides.{confidentiality, integrity};
@@ -13,14 +15,14 @@ const NONE: u64 = 0;
 
 const ALL: u64 = 0xFFFF_FFFF_FFFF_FFFF;
 
-#[derive(Drop)]
+#[derive(Clone, Copy)]
 pub enum Side {
     See,
     Change,
 }
 
 // A row of a set of coalitions: its four words, lowest first.
-#[derive(Drop)]
+#[derive(Clone, Copy)]
 pub struct Row {
     pub a: u64,
     pub b: u64,
@@ -29,7 +31,7 @@ pub struct Row {
 }
 
 // A row on each side.
-#[derive(Drop)]
+#[derive(Clone, Copy)]
 pub struct Rows {
     pub see: Row,
     pub change: Row,
@@ -165,7 +167,7 @@ fn name_row(i: u8, g: u64) -> Row
 
 // A row of a term on both sides, and the place after the term's codes. The place stands first: with it last the compiler pairs the words off by one, and
 // each pair is read back slowly.
-#[derive(Drop)]
+#[derive(Clone, Copy)]
 pub struct Held {
     pub next: usize,
     pub rows: Rows,

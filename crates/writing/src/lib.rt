@@ -1,4 +1,6 @@
 // Terms on paper (document 02, K1 and K4): terms are written as texts.
+#![tactic(auto)]
+
 ghost use Rattle.std.specs.Prelude.{◌≡◌, ◌+◌, ◌≤◌, ◌<◌, length, drop, get_or};
 ghost use Rattle.model.specs.Texts.{decimal, flat, flat_all};
 ghost use Rattle.model.specs.Notation.{write_term};
@@ -10,7 +12,7 @@ use notation::Noted;
 use terms::TermReading;
 
 // What a code is on paper.
-#[derive(Drop)]
+#[derive(Clone, Copy)]
 enum Mark {
     // A name, * or _.
     Whole(u8),
@@ -41,7 +43,7 @@ fn mark_of(code: u8) -> Mark
 }
 
 // Where writing stands: the next code, and the next character.
-#[derive(Drop)]
+#[derive(Clone, Copy)]
 struct Place {
     next: usize,
     to: usize,

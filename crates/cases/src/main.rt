@@ -6,7 +6,9 @@ ghost use Rattle.std.specs.Prelude.{◌≡◌, true, ◌++◌, ◌+◌, ◌-◌,
 ghost use Rattle.model.specs.Bytes.{field, two_bytes, four_bytes};
 ghost use Rattle.cases.specs.Records.{eight_bytes, input_length, input_start, Whole, Within};
 
-use libc::{STDERR_FILENO, STDOUT_FILENO};
+use std::io::Read;
+use std::rt::Files;
+use std::{fs, io};
 
 // Kind 2 of an answer, refused, without its figure.
 const REFUSED: u32 = 131072;
@@ -81,7 +83,7 @@ fn is_written(buffer: &[u8], expected: &[u8], b: u8) -> bool
     if buffer.len() < n {
         return false;
     }
-    if check::same(&buffer[..n], expected) {
+    if &buffer[..n] == expected {
         is_filled(&buffer[n..], b)
     } else {
         false
@@ -296,7 +298,7 @@ fn unpack_run(runs: &[u8], to: &mut [u8]) -> Run
     if to.len() < size {
         return Run::Broken;
     }
-    bytes::copy(&runs[1..plain + 1], to);
+    to[..plain].copy_from_slice(&runs[1..plain + 1]);
     fill(&mut to[plain..size], 0);
     Run::Sizes(plain + 3, size)
 }
@@ -411,7 +413,7 @@ fn quote_agrees(unpacked: &[u8]) -> bool
     if ledger.len() < end {
         return false;
     }
-    check::same(quoted, &ledger[start..end])
+    quoted == &ledger[start..end]
 }
 
 // Case R: a list of calls on a live ledger.
@@ -584,89 +586,107 @@ enum Compared {
     Ended,
 }
 
-// Reads on at the end of the last record: a read that gives nothing is the end only if it did not fail.
-fn at_end(fd: i32) -> Compared {
+// Reads until the part is full or the file ends, and gives how many bytes came.
+fn read_full<R: Read>(reader: &mut R, part: &mut [u8]) -> io::Result<usize> {
+    let mut got: usize = 0;
+    while got < part.len() {
+        let more = reader.read(&mut part[got..])?;
+        if more == 0 {
+            return Ok(got);
+        }
+        got += more;
+    }
+    Ok(got)
+}
+
+// Reads on at the end of the last record, where nothing may come.
+fn at_end<R: Read>(reader: &mut R) -> io::Result<Compared> {
     let mut byte = [0u8; 1];
-    if libc::read(fd, &mut byte) == 0 {
-        Compared::Ended
+    if reader.read(&mut byte)? == 0 {
+        Ok(Compared::Ended)
     } else {
-        Compared::Differs
+        Ok(Compared::Differs)
     }
 }
 
 // Reads the next record and compares.
-fn compare_next(fd: i32, packed: &mut [u8], unpacked: &mut [u8], space: &mut [u8]) -> Compared {
+fn compare_next<R: Read>(
+    reader: &mut R,
+    packed: &mut [u8],
+    unpacked: &mut [u8],
+    space: &mut [u8],
+) -> io::Result<Compared> {
     let mut head = [0u8; 4];
-    let got = io::read_full(fd, &mut head);
+    let got = read_full(reader, &mut head)?;
     if got == 0 {
-        return at_end(fd);
+        return at_end(reader);
     }
     if got < 4 {
-        return Compared::Differs;
+        return Ok(Compared::Differs);
     }
     let size = four_bytes(&head, 0) as usize;
     if packed.len() < size {
-        return Compared::Differs;
+        return Ok(Compared::Differs);
     }
-    if io::read_full(fd, &mut packed[0..size]) != size {
-        return Compared::Differs;
+    if read_full(reader, &mut packed[0..size])? != size {
+        return Ok(Compared::Differs);
     }
     let len = unpack(&packed[0..size], unpacked);
     if agrees(&unpacked[0..len], space) {
-        Compared::Same
+        Ok(Compared::Same)
     } else {
-        Compared::Differs
+        Ok(Compared::Differs)
     }
 }
 
 // Says on standard error which record differs, counted from 0.
-fn name_record(k: u64) {
-    io::write_all(STDERR_FILENO, b"calls: record ");
-    io::print_decimal(STDERR_FILENO, k);
-    io::write_all(STDERR_FILENO, b"\n");
+fn name_record(rt: &impl Eprint, k: u64) -> io::Result<()> {
+    eprintln!(rt; "calls: record {k}")
 }
 
 // Compares all records. At least 2,000 are asked; the file has room for fewer than a million.
-fn compare_all(fd: i32, packed: &mut [u8], unpacked: &mut [u8], space: &mut [u8]) -> bool {
+fn compare_all<R: Read>(
+    rt: &impl Eprint,
+    reader: &mut R,
+    packed: &mut [u8],
+    unpacked: &mut [u8],
+    space: &mut [u8],
+) -> io::Result<bool> {
     let mut compared: u64 = 0;
     while compared < 1000000 {
-        let next = compare_next(fd, packed, unpacked, space);
+        let next = compare_next(reader, packed, unpacked, space)?;
         match next {
             Compared::Same => compared += 1,
             Compared::Differs => {
-                name_record(compared);
-                return false;
+                name_record(rt, compared)?;
+                return Ok(false);
             }
-            Compared::Ended => return 2000 <= compared,
+            Compared::Ended => return Ok(2000 <= compared),
         }
     }
-    false
+    Ok(false)
 }
 
-fn case_r() -> bool {
-    let mut packed = io::large_buffer();
-    let mut unpacked = io::large_buffer();
-    let mut space = io::large_buffer();
-    let fd = os::open_read(b"calls");
-    if fd < 0 {
-        return false;
-    }
-    let same = compare_all(fd, &mut packed, &mut unpacked, &mut space);
-    libc::close(fd);
-    same
+fn case_r(rt: &(impl Files + Eprint)) -> io::Result<bool> {
+    let mut packed = [0u8; 65536];
+    let mut unpacked = [0u8; 65536];
+    let mut space = [0u8; 65536];
+    let Ok(mut calls) = fs::open(rt, "calls") else {
+        return Ok(false);
+    };
+    compare_all(rt, &mut calls, &mut packed, &mut unpacked, &mut space)
 }
 
-fn print(letter: u8, same: bool) {
-    io::write_all(STDOUT_FILENO, &[letter, b' ']);
+fn print(rt: &impl Print, letter: char, same: bool) -> io::Result<()> {
     if same {
-        io::write_all(STDOUT_FILENO, b"same\n");
+        println!(rt; "{letter} same")
     } else {
-        io::write_all(STDOUT_FILENO, b"differs\n");
+        println!(rt; "{letter} differs")
     }
 }
 
-fn main() {
-    print(b'K', case_k());
-    print(b'L', case_l());
-    print(b'R', case_r());
+fn main(rt: HostRuntime) -> io::Result<()> {
+    print(&rt, 'K', case_k())?;
+    print(&rt, 'L', case_l())?;
+    print(&rt, 'R', case_r(&rt)?)
 }

@@ -1,7 +1,7 @@
 // Terms on paper (document 02, K1 and K4): texts are read to codes.
 #![tactic(auto)]
 
-ghost use Rattle.std.specs.Prelude.{◌≡◌, ◌+◌, ◌≤◌, length};
+ghost use Rattle.std.specs.Prelude.{◌≡◌, ◌++◌, ◌+◌, ◌≤◌, drop, length};
 ghost use Rattle.model.specs.Notation.{last_of, ends_in, read_number, opened, read_back, around_back, read_text};
 ghost use Rattle.notation.specs.Reading.{outcome_of, ending_of, numeral_of, backward, Room, Read, ReadBefore};
 
@@ -236,6 +236,17 @@ fn read_either(n: u64, text: &[u8], end: usize, scratch: &mut [u8; 256], to: usi
     Left::Before(first, second - 1)
 }
 
+// Puts the bytes of `from` at the start of `to`, and gives how many they are. Later bytes keep their content.
+fn copy(from: &[u8], to: &mut [u8]) -> usize
+    requires { length from.now ≤ length to.old }
+    ensures counted { result ≡ length from.now }
+    ensures copied { to.new ≡ from.now ++ drop (length from.now) to.old }
+{
+    let n = from.len();
+    to[..n].copy_from_slice(from);
+    n
+}
+
 // Takes n, a text and a buffer of 64 bytes, for its codes. They are read into a scratch, which has a byte for each character, so that a refused
 // text leaves the buffer as it was. Later bytes keep their content.
 pub fn read_text(n: u64, text: &[u8], codes: &mut [u8]) -> Noted
@@ -261,5 +272,5 @@ pub fn read_text(n: u64, text: &[u8], codes: &mut [u8]) -> Noted
     if from < 192 {
         return Noted::Refused(83);
     }
-    Noted::Written(bytes::copy(&scratch[from..], codes))
+    Noted::Written(copy(&scratch[from..], codes))
 }

@@ -1,5 +1,4 @@
-// The entry points for C (document 01: "The workflow program in C calls all of these but quoting"). Each asks nothing of its caller, calls one
-// proved function, and gives its answer as one number.
+// The calls of the C library, which `rights_c` exports. Each asks nothing of its caller, calls one proved function, and gives its answer as one number.
 #![tactic(auto)]
 
 ghost use Rattle.std.specs.Prelude.{◌≡◌};
@@ -43,24 +42,21 @@ fn checked_number(checked: Checked) -> u32
 }
 
 // Does p act for q under the label, on the day?
-#[unsafe(no_mangle)]
-pub extern "C" fn rights_acts_for(ledger: &[u8], p: &[u8], q: &[u8], label: &[u8], day: u32) -> u32
+pub fn rights_acts_for(ledger: &[u8], p: &[u8], q: &[u8], label: &[u8], day: u32) -> u32
     ensures { result ≡ number (acts_for ledger.now p.now q.now label.now day) }
 {
     answer_number(questions::acts_for(ledger, p, q, label, day))
 }
 
 // Does p flow to q under the label, on the day?
-#[unsafe(no_mangle)]
-pub extern "C" fn rights_flows_to(ledger: &[u8], p: &[u8], q: &[u8], label: &[u8], day: u32) -> u32
+pub fn rights_flows_to(ledger: &[u8], p: &[u8], q: &[u8], label: &[u8], day: u32) -> u32
     ensures { result ≡ number (flows_to ledger.now p.now q.now label.now day) }
 {
     answer_number(questions::flows_to(ledger, p, q, label, day))
 }
 
 // Writes the extract of the ledger under the label, on the day.
-#[unsafe(no_mangle)]
-pub extern "C" fn rights_extract(ledger: &[u8], label: &[u8], day: u32, buffer: &mut [u8]) -> u32
+pub fn rights_extract(ledger: &[u8], label: &[u8], day: u32, buffer: &mut [u8]) -> u32
     ensures answered { result ≡ number (extract ledger.now label.now day buffer.old).answer }
     ensures written { buffer.new ≡ (extract ledger.now label.now day buffer.old).buffer }
 {
@@ -72,8 +68,7 @@ pub extern "C" fn rights_extract(ledger: &[u8], label: &[u8], day: u32, buffer: 
 }
 
 // Writes the short form of the term in a job of n names.
-#[unsafe(no_mangle)]
-pub extern "C" fn rights_short_form(n: u64, term: &[u8], buffer: &mut [u8]) -> u32
+pub fn rights_short_form(n: u64, term: &[u8], buffer: &mut [u8]) -> u32
     ensures answered { result ≡ number (shorten n term.now buffer.old).answer }
     ensures written { buffer.new ≡ (shorten n term.now buffer.old).buffer }
 {
@@ -85,13 +80,7 @@ pub extern "C" fn rights_short_form(n: u64, term: &[u8], buffer: &mut [u8]) -> u
 }
 
 // Does every step of the derivation follow by its rule, on the day?
-#[unsafe(no_mangle)]
-pub extern "C" fn rights_check_derivation(
-    derivation: &[u8],
-    ledger: &[u8],
-    label: &[u8],
-    day: u32,
-) -> u32
+pub fn rights_check_derivation(derivation: &[u8], ledger: &[u8], label: &[u8], day: u32) -> u32
     ensures { result ≡ number (check_derivation derivation.now ledger.now label.now day) }
 {
     checked_number(derivations::check_derivation(derivation, ledger, label, day))

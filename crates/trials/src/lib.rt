@@ -1,5 +1,5 @@
-// Exports for tests alone: calls of document 02 that the C program does not get. Each asks nothing of its caller, calls one proved function, and gives
-// its answer as one number, as the entry points of `rights` do.
+// Calls for tests alone, which `trials_c` exports to C and the C library does not have. Each asks nothing of its caller, calls one proved function, and gives
+// its answer as one number, as the calls of `rights` do.
 #![tactic(auto)]
 
 pub mod live_calls;
@@ -32,8 +32,7 @@ fn noted_number(noted: Noted) -> u32
 }
 
 // Reads a text to codes in a job of n names.
-#[unsafe(no_mangle)]
-pub extern "C" fn trials_read_text(n: u64, text: &[u8], codes: &mut [u8]) -> u32
+pub fn trials_read_text(n: u64, text: &[u8], codes: &mut [u8]) -> u32
     ensures answered { result ≡ number (read_text n text.now codes.old).answer }
     ensures written { codes.new ≡ (read_text n text.now codes.old).buffer }
 {
@@ -41,8 +40,7 @@ pub extern "C" fn trials_read_text(n: u64, text: &[u8], codes: &mut [u8]) -> u32
 }
 
 // Writes a term of a job of n names as a text.
-#[unsafe(no_mangle)]
-pub extern "C" fn trials_write_term(n: u64, term: &[u8], text: &mut [u8]) -> u32
+pub fn trials_write_term(n: u64, term: &[u8], text: &mut [u8]) -> u32
     ensures answered { result ≡ number (write_term n term.now text.old).answer }
     ensures written { text.new ≡ (write_term n term.now text.old).buffer }
 {
@@ -50,8 +48,7 @@ pub extern "C" fn trials_write_term(n: u64, term: &[u8], text: &mut [u8]) -> u32
 }
 
 // Adds 0 to 366 days to a date: the number is the date, which no refusal's number is.
-#[unsafe(no_mangle)]
-pub extern "C" fn trials_add_days(date: u32, count: u32) -> u32
+pub fn trials_add_days(date: u32, count: u32) -> u32
     ensures { result ≡ sum_number (add_days date count) }
 {
     let sum = dates::add_days(date, count);
@@ -83,8 +80,7 @@ fn test_number(tested: Tested) -> u32
 }
 
 // Tests a coalition on a side against the grants that count under a label on a day.
-#[unsafe(no_mangle)]
-pub extern "C" fn trials_test_coalition(
+pub fn trials_test_coalition(
     ledger: &[u8],
     label: &[u8],
     day: u32,

@@ -63,8 +63,7 @@ fn answer_number(answer: Answer) -> u32
 }
 
 // A new live ledger.
-#[unsafe(no_mangle)]
-pub extern "C" fn trials_live_make(
+pub fn trials_live_make(
     n: u64,
     label: &[u8],
     day: u32,
@@ -81,8 +80,7 @@ pub extern "C" fn trials_live_make(
 }
 
 // Adds the grant of a block.
-#[unsafe(no_mangle)]
-pub extern "C" fn trials_live_add(
+pub fn trials_live_add(
     head: &mut [u64; 4],
     text: &mut [u8; 64],
     ledger: &mut [u8; 33280],
@@ -97,8 +95,7 @@ pub extern "C" fn trials_live_add(
 }
 
 // Withdraws grant k.
-#[unsafe(no_mangle)]
-pub extern "C" fn trials_live_withdraw(
+pub fn trials_live_withdraw(
     head: &mut [u64; 4],
     text: &mut [u8; 64],
     ledger: &mut [u8; 33280],
@@ -113,8 +110,7 @@ pub extern "C" fn trials_live_withdraw(
 }
 
 // Does p act for q?
-#[unsafe(no_mangle)]
-pub extern "C" fn trials_live_acts_for(
+pub fn trials_live_acts_for(
     head: &[u64; 4],
     text: &[u8; 64],
     numbers: &[u64; 896],
@@ -127,8 +123,7 @@ pub extern "C" fn trials_live_acts_for(
 }
 
 // Does p flow to q?
-#[unsafe(no_mangle)]
-pub extern "C" fn trials_live_flows_to(
+pub fn trials_live_flows_to(
     head: &[u64; 4],
     text: &[u8; 64],
     numbers: &[u64; 896],

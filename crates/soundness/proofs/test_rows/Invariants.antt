@@ -1,0 +1,13 @@
+use Prim.Native.Nat.{◌-◌, ◌/◌, ◌^◌, ◌≤◌}
+use mathlib.Core.Path.{◌≡◌}
+use Rattle.model.specs.Coalitions.{Marks}
+use Rattle.words.specs.FourWords.{RowsAt}
+use Rattle.soundness.specs.Testing.{TestedTo}
+use Rattle.soundness.proofs.test_rows.Given as goal
+
+abbrev pub invariant-loop-k : goal.invariant-loop-k
+invariant-loop-k l =
+    (l.k ≤ l.grants) × (l.tested ≤ l.k) × (l.left ≡ l.chosen / 2 ^ l.k) × ((f : Marks) → RowsAt f l.g l.initial.rows → TestedTo l.ledger l.k l.chosen f l.g (record { tested = l.tested; rows = l.rows }))
+
+abbrev pub decreases-loop-k : goal.decreases-loop-k
+decreases-loop-k l = l.grants - l.k

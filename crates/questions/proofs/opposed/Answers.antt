@@ -1,0 +1,23 @@
+use mathlib.Core.Path.{ap, ◌∙◌}
+use lib.Bits.{bit_and}
+use Rattle.words.specs.FourWords.{each_word}
+use Rattle.questions.proofs.Refuting.{acts_rows, flows_rows}
+use Rattle.questions.proofs.opposed.Goals as goal
+
+-- NO GOAL for enum-told
+-- enum_told c = search rules
+-- NO GOAL for enum-told-2
+-- enum-told-2 c = search rules
+pub returns-in-ActsFor : goal.returns-in-ActsFor
+returns-in-ActsFor c =
+    rw c.in-ActsFor.is
+    (acts_rows _ _ _ _ _ _ _ c.low_row-mask.ensures c.hold-left.ensures.held_there c.hold-right.ensures.held_there _ _
+    (c.both-change.ensures ∙ ap (each_word bit_and c.low_row-mask.result) c.without.ensures)
+    (c.both.ensures ∙ ap (each_word bit_and c.low_row-mask.result) c.without-in-ActsFor.ensures))
+
+pub returns-in-FlowsTo : goal.returns-in-FlowsTo
+returns-in-FlowsTo c =
+    rw c.in-FlowsTo.is
+    (flows_rows _ _ _ _ _ _ _ c.low_row-mask.ensures c.hold-left.ensures.held_there c.hold-right.ensures.held_there _ _
+    (c.both-change.ensures ∙ ap (each_word bit_and c.low_row-mask.result) c.without.ensures)
+    (c.both-in-FlowsTo.ensures ∙ ap (each_word bit_and c.low_row-mask.result) c.without-in-FlowsTo.ensures))

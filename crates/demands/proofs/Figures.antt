@@ -137,7 +137,7 @@ module _ (most : ℕ) (refusals : List Range) where
 pub short_forms_answered : ShortFormsAnswered
 unfolding shorten short_form_of
 short_forms_answered n term buffer =
-    front_answered _ _ (short_form_of n term (length buffer)) buffer
+    front_answered _ short_form_refusals (short_form_of n term (length buffer)) buffer
     (only-require (OneOf short_form_refusals) (job_size n) 7 _ (inl (omega arith, omega arith))
     (only-require (OneOf short_form_refusals) (leb 3700 (length buffer)) 8 _ (inl (omega arith, omega arith))
     (only_then (OneOf short_form_refusals) (read_term n term) _ (only_term (OneOf short_form_refusals) n term (λ r a b. inr (inl (a, b)))) (λ t. tt))))
@@ -166,8 +166,8 @@ term_only n term size =
 pub notation_answered : NotationAnswered
 unfolding read_text write_term
 notation_answered = record {
-  texts = λ n text buffer. front_answered _ _ (text_codes n text (length buffer)) buffer (text_only n text (length buffer)) (λ k e. omega (arith, text_few n text buffer k e));
-  terms = λ n term buffer. front_answered _ _ (term_text n term (length buffer)) buffer (term_only n term (length buffer)) (λ k e. omega (arith, term_few n term buffer k e));
+  texts = λ n text buffer. front_answered _ text_refusals (text_codes n text (length buffer)) buffer (text_only n text (length buffer)) (λ k e. omega (arith, text_few n text buffer k e));
+  terms = λ n term buffer. front_answered _ term_refusals (term_text n term (length buffer)) buffer (term_only n term (length buffer)) (λ k e. omega (arith, term_few n term buffer k e));
 }
 
 -- ---- derivations

@@ -14,7 +14,6 @@ use Rattle.model.specs.Grants.{counts_under, visible, voice, spoken, heard, chos
 use Rattle.model.specs.Ledgers.{read_book, weighted, check_of, checked, grant_blocks, all_checked, header_form, grant_form, read_terms, read_days, read_grant, read_grants, read_ledger, with_check, ledger_of}
 use Rattle.model.specs.Questions.{refutes, judge, across, sound_under, acts_for_under, flows_to_under, ask, acts_for, flows_to}
 use Rattle.model.specs.Extracts.{packed_bytes, table, extract_of, extract}
-use Rattle.model.specs.Texts.{term}
 use Rattle.demands.specs.Cases.{plain, one_grant, side_spoken, side_labelled, HeldEverywhere, WorkedCases, WrongTurns}
 
 either_held : HeldEverywhere 2 (0x31 ∷ 0x40 ∷ 0x00 ∷ 0x41 ∷ 0x01 ∷ [])

@@ -3,7 +3,6 @@ use Rattle.std.specs.Prelude.{◌≡◌, ℕ, true, List, [], ◌∷◌, ◌++�
 use Rattle.model.specs.Sides.{Side, confidentiality, integrity}
 use Rattle.model.specs.Readings.{accepted}
 use Rattle.model.specs.Terms.{Term, read_term, held}
-use Rattle.model.specs.Bytes.{field}
 use Rattle.model.specs.Dates.{real_date}
 use Rattle.model.specs.Ledgers.{with_check, ledger_of}
 use Rattle.model.specs.Answers.{Yes, No}

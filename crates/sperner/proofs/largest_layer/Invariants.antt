@@ -1,3 +1,4 @@
+-- The loop has the largest of the layers below k. Assumes nothing.
 use mathlib.Core.Path.{◌≡◌}
 use Prim.Native.Nat.{◌+◌, ◌-◌, ◌≤◌, min}
 use Rattle.model.specs.Layers.{layer, largest}

@@ -1,3 +1,4 @@
+-- The loop has counted the coalitions below c. Assumes nothing.
 use mathlib.Core.Path.{◌≡◌}
 use Prim.Native.Nat.{◌-◌, ◌^◌, ◌≤◌, min}
 use Rattle.sperner.proofs.Counts.{count}

@@ -1,0 +1,5 @@
+use Rattle.algebra.proofs.Principals.{projection_laws}
+use Rattle.algebra.proofs.definitions_1_and_2_hold.Goals as goal
+
+pub returns : goal.returns
+returns c = projection_laws

@@ -1,0 +1,5 @@
+use Rattle.algebra.proofs.SevenRules.{yes_derived}
+use Rattle.algebra.proofs.rules.yes_is_what_seven_rules_derive.Goals as goal
+
+pub returns : goal.returns
+returns c = yes_derived

@@ -1,0 +1,5 @@
+use Rattle.algebra.proofs.Exact.{spoken-voice}
+use Rattle.algebra.proofs.spoken_is_acting_for_the_voice.Goals as goal
+
+pub returns : goal.returns
+returns c = spoken-voice

@@ -1,0 +1,5 @@
+use Rattle.demands.proofs.Tried.{wrong_turns}
+use Rattle.demands.proofs.cases.wrong_turns_answer_otherwise.Goals as goal
+
+pub returns : goal.returns
+returns c = wrong_turns

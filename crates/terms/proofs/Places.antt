@@ -7,7 +7,7 @@ use mathlib.Core.Bool.{true, false}
 use mathlib.Core.List.{List, [], ◌∷◌, ◌++◌}
 use lib.ListN.{length, drop, get_or, length-append, length-drop, drop_of_length-le}
 use lib.Seq.{drop-cons, drop-drop, drop-append_seam}
-use Rattle.model.specs.Terms.{Term, quorum, Terms, nil, cons, quorate, codes, Code, whole, one, two, many, none, code_of, Front, found, stopped, onward, read_all, read_quorum, read_parts, read_front, all_read, read_term}
+use Rattle.model.specs.Terms.{Term, quorum, Terms, cons, quorate, codes, Code, whole, one, two, many, none, code_of, Front, found, stopped, onward, read_all, read_quorum, read_parts, read_front, all_read, read_term}
 use Rattle.model.specs.Refusals.{WrongLength}
 use Rattle.terms.specs.Readings.{shape_of, place_of, part_at, parts_at, term_reading}
 use Rattle.terms.specs.declared.Shape.{Shape}

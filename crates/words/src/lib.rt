@@ -488,8 +488,8 @@ pub fn row_count(n: u64) -> u64
 
 // All rows of a term of n names on both sides, row g in the four words from place 4 * g on: for what asks for them more than once.
 pub fn evaluate(codes: &[u8], n: u64, see: &mut [u64; 64], change: &mut [u64; 64])
-    ensures evaluated_to { EvaluatedTo (term_in codes.now) confidentiality (4 * row_count n) see.old see.new }
-    ensures evaluated_to_2 { EvaluatedTo (term_in codes.now) integrity (4 * row_count n) change.old change.new }
+    ensures see_side { EvaluatedTo (term_in codes.now) confidentiality (4 * row_count n) see.old see.new }
+    ensures change_side { EvaluatedTo (term_in codes.now) integrity (4 * row_count n) change.old change.new }
 {
     let count = row_count(n);
     let mut g: u64 = 0;

@@ -1,0 +1,5 @@
+use Rattle.sperner.proofs.Sizes.{ones_size}
+use Rattle.sperner.proofs.size.Goals as goal
+
+pub returns : goal.returns
+returns c = ones_size 64 c.args.coalition c.ranges.coalition.fits

@@ -1,0 +1,93 @@
+use Rattle.std.proofs.Common.{◌≡◌, ◌+◌, ◌≤◌, ◌<◌, ℕ, true, List, eqb, ltb, length, get_or, arith, sym, ◌∙◌, subst}
+use Rattle.model.specs.Terms.{quorate}
+use Rattle.model.proofs.Truth.{and_right}
+use Rattle.model.proofs.Reading.{quorate_true}
+use Rattle.words.specs.declared.Held.{Held}
+use Rattle.words.specs.Evaluation.{Evaluated, left_over, quorum_at}
+use Rattle.words.proofs.Behind.{behind_left_over, behind_other, behind_most}
+use Rattle.words.proofs.Steps.{left_over_lem, left_over_inside, eval_end, eval_bottom, eval_confidentiality, eval_integrity, eval_join, eval_quorum, eval_left_over}
+use Rattle.words.proofs.Tallies.{weighing_start, weighing_next}
+use Rattle.words.proofs.+hold_hold_quorum.Goals as goal
+use Rattle.words.proofs.+hold_hold_quorum.Goals.{hold-Joined-is_name, hold-Joined-is_name-2, hold_quorum-Else-not-leaves, hold_quorum-Else-not-is_quorum, hold-then-is_name, hold-else-is_name, hold-then-is_name-2, hold-else-is_name-2}
+
+-- a part that is held at a place, and the place after it
+abbrev There : List ℕ → ℕ → ℕ → Held → Type 0
+There codes at g part = Evaluated codes at g part.rows part.next
+
+pub hold-returns-then-codes-at : goal.hold-returns-then-codes-at
+hold-returns-then-codes-at t c = eval_end _ _ _ _ c.if-codes-at.true c.alike.ensures
+
+-- the first part, whether it is a name or not, and the second
+first : (t : ℕ) (c : hold-Joined-is_name t) → There c.args.codes.now (c.args.at + 1) c.args.g c.if-is_name.p
+first t c = elim c.if-is_name.branch [
+  | hold-then-is_name w ↦ subst (There c.args.codes.now (c.args.at + 1) c.args.g) (sym w.p-is) w.hold_name-p.ensures
+  | hold-else-is_name w ↦ subst (There c.args.codes.now (c.args.at + 1) c.args.g) (sym w.p-is) w.hold-p.ensures
+]
+
+second : (t : ℕ) (c : hold-Joined-is_name-2 t) → There c.args.codes.now c.if-is_name.p.next c.args.g c.if-is_name-2.q
+second t c = elim c.if-is_name-2.branch [
+  | hold-then-is_name-2 w ↦ subst (There c.args.codes.now c.if-is_name.p.next c.args.g) (sym w.q-is) w.hold_name-q.ensures
+  | hold-else-is_name-2 w ↦ subst (There c.args.codes.now c.if-is_name.p.next c.args.g) (sym w.q-is) w.hold-q.ensures
+]
+
+pub hold-returns-then-joins : goal.hold-returns-then-joins
+hold-returns-then-joins t c =
+    eval_join _ _ _ (omega arith) _ _ (first t (goal.at.hold-returns-then-joins t c).Joined-is_name) _ _ (second t (goal.at.hold-returns-then-joins t c).Joined-is_name-2) _ (sym c.joins.ensures ∙ c.if-joins.true) c.join.ensures
+
+pub hold-hold_quorum-q-requires : goal.hold-hold_quorum-q-requires
+hold-hold_quorum-q-requires t c =
+    let left = left_over_lem _ c.if-code-lt12.false (sym c.joins.ensures ∙ c.if-joins.false) (λ e. omega arith) (λ e. omega arith) (λ e. omega arith) in
+    (omega (arith, behind_left_over c.args.codes.now c.args.at left, c.decreases), tt)
+
+pub hold-returns-in-33 : goal.hold-returns-in-33
+hold-returns-in-33 t c = eval_bottom _ _ _ (omega arith) _ c.alike-in-33.ensures c.in-33.is
+
+pub hold-returns-in-64 : goal.hold-returns-in-64
+hold-returns-in-64 t c = eval_confidentiality _ _ _ (omega arith) _ _ c.hold-p-in-64.ensures _ c.same.ensures c.in-64.is
+
+pub hold-returns-in-65 : goal.hold-returns-in-65
+hold-returns-in-65 t c = eval_integrity _ _ _ (omega arith) _ _ c.hold-p-in-65.ensures _ c.same-in-65.ensures c.in-65.is
+
+pub hold_quorum-hold-p-requires : goal.hold_quorum-hold-p-requires
+hold_quorum-hold-p-requires t c =
+    (omega (arith, behind_other c.args.codes.now c.args.at (sym c.leaves.ensures ∙ c.if-not-leaves.true), c.decreases), tt)
+
+-- a code that is left over is there
+told : (t : ℕ) (c : hold_quorum-Else-not-leaves t) → left_over (get_or c.args.codes.now c.args.at 0) ≡ true
+told t c = sym c.leaves.ensures ∙ c.if-not-leaves.false
+
+there : (t : ℕ) (c : hold_quorum-Else-not-leaves t) → c.args.at < length c.args.codes.now
+there t c = left_over_inside c.args.codes.now c.args.at (told t c)
+
+-- and it is a quorum's, with a k and an m in range
+counted : (t : ℕ) (c : hold_quorum-Else-not-is_quorum t) → quorum_at c.args.codes.now c.args.at ≡ true
+counted t c = sym c.is_quorum.ensures ∙ c.if-not-is_quorum.false
+
+few : (t : ℕ) (c : hold_quorum-Else-not-is_quorum t) → get_or c.args.codes.now (c.args.at + 1) 0 ≤ 12
+few t c =
+    let k = get_or c.args.codes.now (c.args.at + 1) 0 in
+    let m = get_or c.args.codes.now (c.args.at + 2) 0 in
+    omega (arith, quorate_true k m (and_right (ltb (c.args.at + 2) (length c.args.codes.now)) (quorate k m) (and_right (eqb (get_or c.args.codes.now c.args.at 0) 0x32) _ (counted t c))))
+
+pub hold_quorum-returns-then-not-is_quorum : goal.hold_quorum-returns-then-not-is_quorum
+hold_quorum-returns-then-not-is_quorum t c =
+    let q = (goal.at.hold_quorum-returns-then-not-is_quorum t c).Else-not-leaves in
+    eval_left_over _ _ _ (there t q) _ c.alike.ensures (told t q) (sym c.is_quorum.ensures ∙ c.if-not-is_quorum.true)
+
+pub hold_quorum-loop-left-init : goal.hold_quorum-loop-left-init
+hold_quorum-loop-left-init t c =
+    (few t (goal.at.hold_quorum-loop-left-init t c).Else-not-is_quorum, weighing_start _ _ _ _ _ _ _ _ _ c.same.ensures c.same-2.ensures c.put_row.ensures c.put_row-2.ensures)
+
+pub hold_quorum-hold_quorum-p-requires : goal.hold_quorum-hold_quorum-p-requires
+hold_quorum-hold_quorum-p-requires t c =
+    (omega (arith, there t (goal.at.hold_quorum-hold_quorum-p-requires t c).Else-not-leaves, c.loop-left.invariant.1.forward, behind_most c.args.codes.now c.loop-left.next, c.decreases), tt)
+
+pub hold_quorum-loop-left-preserved : goal.hold_quorum-loop-left-preserved
+hold_quorum-loop-left-preserved t c =
+    (c.loop-left.invariant.0, weighing_next _ _ _ _ _ _ _ _ c.hold_quorum-p.ensures _ _ _ _ c.loop-left.invariant.0 c.weigh.ensures c.weigh-in-loop-left.ensures c.loop-left.left (omega arith) c.loop-left.invariant.1)
+
+pub hold_quorum-returns : goal.hold_quorum-returns
+hold_quorum-returns t c =
+    let p = goal.at.hold_quorum-returns t c in
+    rw (c.row_at.ensures, c.row_at-2.ensures)
+    (eval_quorum _ _ _ (there t p.Else-not-leaves) _ _ c.loop-left.left _ (omega arith) (counted t p.Else-not-is_quorum) c.loop-left.invariant.1)

@@ -1,6 +1,5 @@
 -- The digits of a row of numbers while they are changed one after another, and the rows beside it. Assumes nothing.
 use mathlib.Core.Path.{◌≡◌, refl, sym, ap, ◌∙◌, subst}
-use mathlib.Core.Bool.{Bool}
 use mathlib.Core.List.{List}
 use Prim.Native.Nat.{ℕ, ◌+◌, ◌*◌, ◌<◌, ◌≤◌}
 use native.Mathlib.Decide.{ℕ_discrete, dec_lt}
@@ -8,10 +7,10 @@ use native.Mathlib.Omega.{arith}
 use lib.ListN.{length, set, length-set}
 use Rattle.model.specs.Coalitions.{member}
 use Rattle.words.specs.declared.Row.{Row}
-use Rattle.words.specs.FourWords.{RowAt, row_set, row_in}
+use Rattle.words.specs.FourWords.{row_set}
 use Rattle.words.proofs.FourWords.{row_cong}
 use Rattle.words.proofs.Tallies.{row_other, row_set_lem}
-use Rattle.planes.specs.Digits.{digit_row, digit_set, Digits, Stored, Elsewhere}
+use Rattle.planes.specs.Digits.{digit_row, digit_set, Digits, Elsewhere}
 use Rattle.planes.proofs.Carrying.{DigitOf}
 
 length_row : (words : List ℕ) (g : ℕ) (x : Row) → length (row_set words g x) ≡ length words

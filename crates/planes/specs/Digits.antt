@@ -1,5 +1,5 @@
 -- Numbers kept as digits, 256 of them to a row (document 02, K5). Assumes nothing: these are definitions.
-use Rattle.std.specs.Prelude.{◌≡◌, Bool, List, ℕ, ◌+◌, ◌*◌, ◌<◌, ◌≤◌, length, get_or}
+use Rattle.std.specs.Prelude.{◌≡◌, Bool, List, ℕ, ◌+◌, ◌*◌, ◌<◌, ◌≤◌, length}
 use Rattle.model.specs.Coalitions.{member, bit}
 use Rattle.words.specs.declared.Row.{Row}
 use Rattle.words.specs.FourWords.{RowAt, row_set, row_in}

@@ -1,0 +1,14 @@
+use mathlib.Core.Bool.{Bool}
+use Prim.Native.Nat.{ℕ, ◌-◌, ◌≤◌, ◌<◌}
+use Rattle.words.specs.FourWords.{RowAt}
+use Rattle.planes.specs.Digits.{Digits, Elsewhere}
+use Rattle.planes.proofs.Carrying.{plus, CarriedOf}
+use Rattle.planes.proofs.Planes.{Between}
+use Rattle.planes.proofs.lower.Given as goal
+
+abbrev pub invariant-loop-j : goal.invariant-loop-j
+invariant-loop-j l = (l.j ≤ 7) × (l.row < 32) × Elsewhere l.initial.planes l.row l.planes
+    × ((g : ℕ) (f : ℕ → ℕ) (m : ℕ → Bool) → Digits l.initial.planes l.row g (plus f m) → RowAt m g l.initial.borrow → CarriedOf f m l.j g l.borrow × Between l.planes l.row g (plus f m) f l.j)
+
+abbrev pub decreases-loop-j : goal.decreases-loop-j
+decreases-loop-j l = 7 - l.j

@@ -7,7 +7,7 @@
 # make check-pkg-config check-install
 #                    the example against build/ and against an installed library, as pkg-config finds them
 # make bench         how fast the library is beside the reference: make bench BEFORE=HEAD~9 also beside the archive
-#                    of that revision, which it builds first
+#                    of that revision, one of today's kit, which it builds first
 # make instructions  how many instructions each row of the benchmark takes, whatever else the machine does; with BEFORE
 #                    also by that archive
 # make fuzz          a fuzzer for a while: make fuzz SECONDS=60
@@ -48,13 +48,15 @@ BENCH = bench/bench.c bench/jobs.c bench/measure.c bench/live_rows.c bench/hand_
 	tests/library.c build/aligned-rights.a build/aligned-trials.a
 HEADERS = $(wildcard include/*.h reference/*.h tests/*.h bench/*.h)
 
-CRATES = crates.txt $(shell find crates -name '*.rt' -o -name '*.antt')
+# out/ is what rt made
+CRATES = crates.txt $(shell find crates -name out -prune -o \( -name '*.rt' -o -name '*.antt' \) -print)
 
 library: build/librights.a build/rights.h build/rights.pc
 
+# crates/NAME_c exports NAME: rt builds it once it and every crate below it are proved
 build/librights.a build/libtrials.a: build/lib%.a: $(CRATES) | build
-	rt staticlib $*
-	cp target/staticlib/lib$*.a $@
+	cd crates/$*_c && rt lib
+	cp crates/$*_c/out/lib$*_c.a $@
 
 build/rights.h: include/rights.h | build
 	cp $< $@
@@ -130,16 +132,19 @@ REVISION := $(or $(shell git rev-parse --verify --short '$(BEFORE)^{commit}'),$(
 BEFORE_VERSION := $(or $(shell git show $(REVISION):include/rights.h | $(version_of)),0)
 BENCH_PROGRAM = build/bench-$(REVISION)
 PROGRAMS += $(BENCH_PROGRAM)
+RIGHTS_C := $(or $(shell git ls-tree -d --name-only $(REVISION) crates/rights_c),$(error $(REVISION) has no \
+	crate rights_c: its archive took the kit of its time))
 ENTRY_POINTS = rights_acts_for rights_flows_to rights_extract rights_short_form rights_check_derivation
 
 $(BENCH_PROGRAM): $(BENCH) bench/before.c build/before-$(REVISION).a
 $(BENCH_PROGRAM): CFLAGS += $(BENCH_CFLAGS) -DBEFORE='"$(REVISION)"' -DBEFORE_VERSION=$(BEFORE_VERSION)
 
-# made outside of the repository: rt would look for crates among its files
+# Made outside of the repository: rt would look for crates among its files. Today's kit builds it, so the revision must
+# have the crate rights_c; the archives of revisions before that took an earlier kit, and its command.
 build/before-$(REVISION).a: | build
-	tree=$$(mktemp -d) && git archive $(REVISION) | tar -x -C $$tree && (cd $$tree && rt staticlib rights) && \
+	tree=$$(mktemp -d) && git archive $(REVISION) | tar -x -C $$tree && (cd $$tree/$(RIGHTS_C) && rt lib) && \
 		objcopy $(ALIGNED) $(foreach e,$(ENTRY_POINTS),--redefine-sym $e=before_$e) \
-		$$tree/target/staticlib/librights.a $@; \
+		$$tree/$(RIGHTS_C)/out/librights_c.a $@; \
 		status=$$?; rm -rf $$tree; exit $$status
 endif
 
@@ -224,14 +229,14 @@ reading-lines:
 	@for crate in model demands algebra requests sperner; do \
 		echo "crates/$$crate/specs: $$(cat crates/$$crate/specs/*.antt | grep -cvE '^(use |pub mod |$$)')"; done
 
-# Blank lines are not counted, nor comments in code.
+# Blank lines are not counted, nor comments in code, nor what rt made in out/.
 lines:
 	@printf '%-12s %6s %6s %6s %6s\n' crate code specs proofs edits; for crate in crates/*/; do \
 		printf '%-12s %6d %6d %6d %6d\n' "$$(basename $$crate)" \
-		"$$(cat /dev/null $$(find $$crate -path '*/src/*.rt') | grep -cvE '^ *(//|$$)')" \
-		"$$(cat /dev/null $$(find $$crate -path '*/specs/*.antt') | grep -cv '^$$')" \
-		"$$(cat /dev/null $$(find $$crate -path '*/proofs/*.antt') | grep -cv '^$$')" \
-		"$$(find $$crate -name '*.edit' | wc -l)"; done
+		"$$(cat /dev/null $$(find $$crate -name out -prune -o -path '*/src/*.rt' -print) | grep -cvE '^ *(//|$$)')" \
+		"$$(cat /dev/null $$(find $$crate -name out -prune -o -path '*/specs/*.antt' -print) | grep -cv '^$$')" \
+		"$$(cat /dev/null $$(find $$crate -name out -prune -o -path '*/proofs/*.antt' -print) | grep -cv '^$$')" \
+		"$$(find $$crate -path '*/must-fail/*.edit' | wc -l)"; done
 
 clean:
 	rm -rf build

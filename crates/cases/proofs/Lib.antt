@@ -1,4 +1,3 @@
 -- Laws of the test program.
 pub mod Filling
 pub mod Inputs
-pub mod Runs

@@ -77,6 +77,7 @@ pub fn has_terms(step: &[u8], p: &[u8], q: &[u8]) -> bool
 }
 
 // Rule 3: the first premise is p for m, the second m for q.
+#[tactic(auto, unfolding(model::specs::Derivations::meets))]
 pub fn transitive(step: &[u8], a: &[u8], b: &[u8]) -> bool
     ensures { (l : Ledger) → result ≡ meets l transitive step.now a.now b.now }
 {

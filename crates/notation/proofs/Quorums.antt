@@ -1,6 +1,6 @@
 -- How what stands before some places is read, and what that leaves in the scratch (document 02, K4): a law for each return of `read_opening` and `read_places`.
 -- Assumes nothing.
-use Prim.Native.Nat.{ℕ, zero, suc, ◌+◌, ◌-◌, ◌<◌, ◌≤◌}
+use Prim.Native.Nat.{ℕ, suc, ◌+◌, ◌-◌, ◌<◌, ◌≤◌}
 use native.Mathlib.Omega.{arith}
 use native.Mathlib.Numerals.{add-one}
 use mathlib.Core.Path.{◌≡◌, refl, sym, ap, ◌∙◌}
@@ -10,10 +10,10 @@ use lib.Dec.{eqb, ltb}
 use lib.ListN.{length, drop, set, length-append, length-set}
 use borrow.Author.Tests.{eq-eqb, ne_eqb}
 use Rattle.model.specs.Terms.{count, quorate, codes, codes_all}
-use Rattle.model.specs.Texts.{Tree, bracket, at_least, Trees, no_place, place, places, term, terms}
-use Rattle.model.specs.Notation.{Back, ended, no_text, ends_in, Number, number, no_number, read_number, on_number, ends_in_digit, numbered, bracketed, opened, placed, read_back, around_back}
+use Rattle.model.specs.Texts.{bracket, at_least, Trees, no_place, place, places, term, terms}
+use Rattle.model.specs.Notation.{Back, ended, no_text, ends_in, Number, number, no_number, read_number, on_number, bracketed, opened, placed, read_back, around_back}
 use Rattle.model.proofs.Truth.{cond_case}
-use Rattle.model.proofs.Texts.{digits, NumberIn, number-sound, Told, number_told, count_terms, around_step}
+use Rattle.model.proofs.Texts.{digits, NumberIn, number-sound, number_told, count_terms, around_step}
 use Rattle.notation.specs.Reading.{numeral_of, backward, ReadTo, ReadBefore}
 use Rattle.notation.specs.declared.Numeral.{Numeral}
 use Rattle.notation.specs.declared.Numeral.TheVariants.{Of, NoNumeral}

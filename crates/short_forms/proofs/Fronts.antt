@@ -3,7 +3,7 @@ use mathlib.Core.Path.{◌≡◌, refl, sym, ap, ◌∙◌}
 use mathlib.Core.List.{List, [], ◌∷◌, ◌++◌, append_assoc, append-nil}
 use Prim.Native.Nat.{ℕ, ◌+◌, ◌-◌, ◌≤◌}
 use native.Mathlib.Omega.{arith}
-use lib.ListN.{length, take, drop, set, length-append, length-drop, drop_of_length-le}
+use lib.ListN.{length, take, drop, set, length-append, length-take, length-drop, drop_of_length-le}
 use lib.Seq.{take_all, take_at, drop_at, drop-drop}
 use Rattle.short_forms.specs.Listings.{FrontWritten}
 
@@ -12,6 +12,13 @@ pub two_stored : (l : List ℕ) (a b : ℕ) → 2 ≤ length l → set (set l 0 
 two_stored [] a b h = absurd (omega arith)
 two_stored (x ∷ []) a b h = absurd (omega arith)
 two_stored (x ∷ y ∷ l) a b h = refl
+
+-- a buffer is as long as it was when the part from place i on is put back, as long as that was
+pub part_long : (now part : List ℕ) (i : ℕ) → length part ≡ length (take (length now - i) (drop i now))
+    → length (take i now ++ (part ++ drop (length now - i) (drop i now))) ≡ length now
+part_long now part i h =
+    let k : length part ≡ length now - i = h ∙ ap length (take_all (length now - i) (drop i now) (omega (arith, length-drop i now))) ∙ length-drop i now in
+    simp (length-append, length-take, length-drop) (omega (arith, k))
 
 -- the same bytes, differently put
 pub front_same : {x y before now : List ℕ} {i : ℕ} → x ≡ y → FrontWritten x before now i → FrontWritten y before now i

@@ -1,0 +1,11 @@
+use mathlib.Core.Path.{◌≡◌}
+use Prim.Native.Nat.{◌-◌, ◌*◌, ◌≤◌}
+use Rattle.model.specs.Coalitions.{packed}
+use Rattle.short_forms.specs.Listings.{marked, irredundant}
+use Rattle.short_forms.proofs.minimal_word.Given as goal
+
+abbrev pub invariant-loop-i : goal.invariant-loop-i
+invariant-loop-i l = (l.i ≤ l.n) × (l.found ≡ packed (irredundant l.i (marked l.marks)) (64 * l.w) 64)
+
+abbrev pub decreases-loop-i : goal.decreases-loop-i
+decreases-loop-i l = l.n - l.i

@@ -31,6 +31,7 @@ fn all_checks(ledger: &[u8]) -> bool
 }
 
 // Block 0 of a ledger of `count` grants: kind, n, count and filler.
+#[tactic(auto, unfolding(model::specs::Ledgers::header_form))]
 fn header_form(block: &[u8], count: usize) -> bool
     requires { 510 ≤ length block.now }
     ensures { result ≡ header_form count block.now }
@@ -52,6 +53,7 @@ fn header_form(block: &[u8], count: usize) -> bool
 }
 
 // Byte k is the length of the term that begins at `at`, and the rest of its field of 64 bytes is filler.
+#[tactic(auto, unfolding(crate::specs::Forms::term_form))]
 fn term_form(block: &[u8], k: usize, at: usize) -> bool
     requires { (k < length block.now) × (at + 64 ≤ length block.now) }
     ensures { result ≡ term_form k at block.now }
@@ -165,6 +167,7 @@ fn read_grant(block: &[u8], n: u64) -> GrantReading
 }
 
 // A block by itself, in a job of n names: its length, its check, then as in a ledger.
+#[tactic(auto, unfolding(model::specs::Ledgers::read_block))]
 pub fn read_block(block: &[u8], n: u64) -> GrantReading
     ensures { result ≡ grant_reading (read_block n block.now) }
 {

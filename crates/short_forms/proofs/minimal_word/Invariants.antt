@@ -5,7 +5,7 @@ use Rattle.short_forms.specs.Listings.{marked, irredundant}
 use Rattle.short_forms.proofs.minimal_word.Given as goal
 
 abbrev pub invariant-loop-i : goal.invariant-loop-i
-invariant-loop-i l = (l.i ≤ l.n) × (l.found ≡ packed (irredundant l.i (marked l.marks)) (64 * l.w) 64)
+invariant-loop-i l = (l.found ≡ packed (irredundant l.i (marked l.marks)) (64 * l.w) 64) × (l.i ≤ l.n)
 
 abbrev pub decreases-loop-i : goal.decreases-loop-i
 decreases-loop-i l = l.n - l.i

@@ -1,3 +1,4 @@
 -- Laws of the test program.
 pub mod Filling
 pub mod Inputs
+pub mod Runs

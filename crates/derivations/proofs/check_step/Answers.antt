@@ -3,6 +3,7 @@ use native.Mathlib.Omega.{arith}
 use mathlib.Core.Path.{◌≡◌, refl, sym, ◌∙◌}
 use mathlib.Core.Bool.{Bool, true}
 use lib.ListN.{length}
+use Rattle.std.proofs.Common.{rules}
 use Rattle.model.specs.Grants.{Grant}
 use Rattle.model.specs.Ledgers.{Ledger}
 use Rattle.model.specs.Meanings.{grant_bits}
@@ -64,11 +65,11 @@ last : (c : After-meets-met) (l : Ledger) (f : Grant → Bool) → let a = c.arg
 last c l f of are met e =
     let step = c.step_at-step.ensures in
     let ready = ready_for _ _ _ l of _ (sym c.read_step-read.ensures ∙ c.in-Accepted.is) (sym c.grant_exists-exists.ensures ∙ c.if-not-exists.false) in
-    check_told _ _ _ l of _ _ _ step f _ are _ _ _ _ _
+    check_told _ _ _ l of _ _ _ step f _ are _ _ _ true _
     (sym c.read_step-read.ensures ∙ c.in-Accepted.is)
     (sym c.premises_before-earlier.ensures ∙ c.if-not-earlier.false)
     (sym c.grant_exists-exists.ensures ∙ c.if-not-exists.false)
-    (sym c.grant_counts-counts.ensures ∙ c.if-not-counts.false)
+    (sym c.grant_counts-counts.ensures ∙ search rules)
     (sym (c.meets-met.ensures l ready) ∙ e)
 
 pub returns-then-not-met : goal.returns-then-not-met

@@ -56,6 +56,7 @@ fn shape_of(code: u8, n: u64) -> Shape
 }
 
 // The part that starts at `at` is a single code.
+#[tactic(auto, using(crate::proofs::Places::part_whole))]
 fn single(codes: &[u8], at: usize, n: u64) -> bool
     ensures { result ≡ true → part_at codes.now at n ≡ PartReading.Next (at + 1) }
 {

@@ -77,7 +77,7 @@ read_quorum-returns-then-code-ne50 t c =
 
 pub read_quorum-returns-then-codes-at-lt3 : goal.read_quorum-returns-then-codes-at-lt3
 read_quorum-returns-then-codes-at-lt3 t c =
-    sym (part_quorum_short c.args.codes.now c.args.at c.args.n c.if-at-codes.false c.if-code-ne50.false (omega arith))
+    sym (part_quorum_short c.args.codes.now c.args.at c.args.n (omega arith) (omega arith) (omega arith))
 
 pub read_quorum-returns-then-not-fits : goal.read_quorum-returns-then-not-fits
 read_quorum-returns-then-not-fits t c =

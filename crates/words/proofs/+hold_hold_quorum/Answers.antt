@@ -1,4 +1,4 @@
-use Rattle.std.proofs.Common.{◌≡◌, ◌+◌, ◌≤◌, ◌<◌, ℕ, true, List, eqb, ltb, length, get_or, arith, sym, ◌∙◌, subst}
+use Rattle.std.proofs.Common.{rules, ◌≡◌, ◌+◌, ◌≤◌, ◌<◌, ℕ, true, List, eqb, ltb, length, get_or, arith, sym, ◌∙◌, subst}
 use Rattle.model.specs.Terms.{quorate}
 use Rattle.model.proofs.Truth.{and_right}
 use Rattle.model.proofs.Reading.{quorate_true}
@@ -43,10 +43,10 @@ pub hold-returns-in-33 : goal.hold-returns-in-33
 hold-returns-in-33 t c = eval_bottom _ _ _ (omega arith) _ c.alike-in-33.ensures c.in-33.is
 
 pub hold-returns-in-64 : goal.hold-returns-in-64
-hold-returns-in-64 t c = eval_confidentiality _ _ _ (omega arith) _ _ c.hold-p-in-64.ensures _ c.same.ensures c.in-64.is
+hold-returns-in-64 t c = search (rules, eval_confidentiality)
 
 pub hold-returns-in-65 : goal.hold-returns-in-65
-hold-returns-in-65 t c = eval_integrity _ _ _ (omega arith) _ _ c.hold-p-in-65.ensures _ c.same-in-65.ensures c.in-65.is
+hold-returns-in-65 t c = search (rules, eval_integrity)
 
 pub hold_quorum-hold-p-requires : goal.hold_quorum-hold-p-requires
 hold_quorum-hold-p-requires t c =

@@ -189,8 +189,10 @@ int main(int count, char **arguments)
 {
     static struct coverage coverage;
     struct fences fences = make_fences();
+    unsigned long differences =
+        compare_huge_lengths() + compare_dates(0) + compare_dates(1) + compare_dates(DAYS_ADDED_MOST);
     struct run run = start_run(count, arguments, 200000);
-    run.differences = compare_huge_lengths() + compare_dates(0) + compare_dates(1) + compare_dates(DAYS_ADDED_MOST);
+    run.differences = differences;
     compare_random_calls(&fences, &run, &coverage);
     unsigned missing = print_coverage(&coverage, performed, PERFORMED, stdout);
     printf("library and reference: %lu of %lu calls of seed %lu in %.1f s, %lu differ, %u answers never met\n",

@@ -11,6 +11,7 @@ use Rattle.questions.specs.Searching.{verdict_of}
 use Rattle.questions.proofs.Refuting.{judged_static}
 use Rattle.questions.proofs.acts_statically.Goals as goal
 
+-- every coalition keeps no grants
 all_sound : (ledger : List ℕ) (chosen : ℕ) (s : Side) (c : ℕ) → sound_in ledger 0 chosen s c ≡ true
 unfolding sound_in chosen_in sound
 all_sound ledger chosen s c = cc

@@ -1,3 +1,4 @@
+-- The voice of the algebra is held where document 01 says.
 use Rattle.algebra.proofs.Exact.{spoken-voice}
 use Rattle.algebra.proofs.spoken_is_acting_for_the_voice.Goals as goal
 

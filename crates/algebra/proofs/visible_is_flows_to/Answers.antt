@@ -1,3 +1,4 @@
+-- Visible is Definition 3 without grants.
 use Rattle.algebra.proofs.Exact.{visible_flows}
 use Rattle.algebra.proofs.visible_is_flows_to.Goals as goal
 

@@ -1,3 +1,4 @@
+-- The loop's invariant: the first k bytes of the block are in the ledger.
 use mathlib.Core.Path.{◌≡◌}
 use Prim.Native.Nat.{◌-◌, ◌≤◌}
 use lib.ListN.{length}

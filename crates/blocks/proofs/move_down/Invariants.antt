@@ -1,3 +1,4 @@
+-- The loop's invariant: the first k bytes are moved, and those that are read are as they were.
 use mathlib.Core.Path.{◌≡◌}
 use Prim.Native.Nat.{◌+◌, ◌-◌, ◌≤◌}
 use lib.ListN.{length, drop}

@@ -1,3 +1,4 @@
+-- The measure is what is left of the calls.
 use Prim.Native.Nat.{◌-◌, ◌≤◌}
 use lib.ListN.{length}
 use Rattle.cases.proofs.calls_agree.Given as goal

@@ -1,3 +1,4 @@
+-- The measure is how many records may still come. Lent buffers keep their lengths.
 use Prim.Native.Nat.{◌-◌, ◌≤◌}
 use Rattle.cases.proofs.compare_all.Given as goal
 

@@ -1,3 +1,4 @@
+-- An input of a whole record ends within it.
 use Rattle.std.proofs.Common.{arith}
 use Rattle.cases.proofs.Inputs.{input_within}
 use Rattle.cases.proofs.input.Goals as goal

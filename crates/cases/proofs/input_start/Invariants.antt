@@ -1,3 +1,4 @@
+-- A length is below 2^32, so that five of them and 52 fit.
 use Prim.Native.Nat.{◌+◌, ◌*◌, ◌-◌, ◌≤◌}
 use mathlib.Core.Path.{◌≡◌}
 use Rattle.cases.specs.Records.{input_start}

@@ -1,3 +1,4 @@
+-- The buffer is its front and its rest.
 use Rattle.std.proofs.lemmas.Bool.Decides.{Decides-eqb}
 use Rattle.std.proofs.lemmas.Slice.Eq.{slice_eq-Decides}
 use Rattle.cases.proofs.Filling.{front_and_rest}

@@ -1,3 +1,4 @@
+-- The measure is what is left of the packed bytes.
 use Prim.Native.Nat.{◌-◌, ◌≤◌}
 use mathlib.Core.Path.{◌≡◌}
 use lib.ListN.{length}

@@ -1,3 +1,4 @@
+-- The loop's invariant: the row is added in the columns passed, and the sums of before it to the running ones.
 use Prim.Native.Nat.{◌-◌, ◌≤◌}
 use mathlib.Core.Path.{◌≡◌}
 use Rattle.checks.specs.Columns.{added}

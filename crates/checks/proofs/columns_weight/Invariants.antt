@@ -1,3 +1,4 @@
+-- The loop's invariant: `run` is the total of the columns passed, and `sum` their weight, each of which added at most 4,080 and 17 × 65,280.
 use Prim.Native.Nat.{◌-◌, ℕ, ◌+◌, ◌*◌, ◌≤◌}
 use mathlib.Core.Path.{◌≡◌}
 use mathlib.Core.List.{List}

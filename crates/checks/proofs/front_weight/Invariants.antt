@@ -1,3 +1,4 @@
+-- The loop's invariant: the columns have the sums of the rows from `at` on.
 use Prim.Native.Nat.{ℕ, ◌+◌, ◌*◌}
 use mathlib.Core.Path.{◌≡◌}
 use mathlib.Core.List.{List}

@@ -1,3 +1,4 @@
+-- The loop's invariant: what was summed, with the weight of the bytes to come, is the whole weight, and each byte passed added at most 510 × 255.
 use Prim.Native.Nat.{◌+◌, ◌-◌, ◌*◌, ◌≤◌}
 use mathlib.Core.Path.{◌≡◌}
 use lib.ListN.{drop}

@@ -1,3 +1,4 @@
+-- The first 256 bytes, and the 254 that follow, which weigh nothing where they are filler.
 use Prim.Native.Nat.{ℕ, ◌+◌, ◌≤◌}
 use native.Mathlib.Omega.{arith}
 use mathlib.Core.Path.{◌≡◌, sym, ◌∙◌}

@@ -10,6 +10,7 @@ use Rattle.counting.proofs.Tests.{bars_unseen, bars_row}
 use Rattle.counting.proofs.barring.Goals as goal
 use Rattle.counting.proofs.barring.Goals.{After-hold-said}
 
+-- the rows of the grant's label
 own_rows : (c : After-hold-said) → let a = c.args in RowsAt (held (grant_in a.ledger.now a.k).label) a.g c.hold-said.result.rows
 own_rows c =
     let a = c.args in

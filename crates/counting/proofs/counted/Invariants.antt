@@ -1,3 +1,4 @@
+-- The loop's invariant: the bits of the grants from k on.
 use Prim.Native.Nat.{◌-◌, ◌≤◌}
 use mathlib.Core.Path.{◌≡◌}
 use Rattle.model.specs.Coalitions.{packed}

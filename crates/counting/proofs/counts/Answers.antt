@@ -1,3 +1,4 @@
+-- Its days, and then whether it is heard.
 use mathlib.Core.Path.{sym, ◌∙◌}
 use Rattle.model.specs.Grants.{counts_under}
 use Rattle.counting.proofs.counts.Goals as goal

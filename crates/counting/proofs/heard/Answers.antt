@@ -9,6 +9,7 @@ use Rattle.counting.proofs.Few.{heard_clear, heard_rest}
 use Rattle.counting.proofs.heard.Goals as goal
 use Rattle.counting.proofs.heard.Goals.{Else-not-first}
 
+-- the first row is clear
 first : (c : Else-not-first) → let a = c.args in ClearTo (job_of a.n) (bars_at a.ledger.now a.label.now a.k) 1
 first c = c.rows_clear-first.ensures.clear (c.if-not-first.false) (clear_none _ _)
 

@@ -11,6 +11,7 @@ use Rattle.counting.proofs.Knowing.{bit_on, bit_off, may_below, judged_before, j
 use Rattle.counting.proofs.judge.Goals as goal
 use Rattle.counting.proofs.judge.Goals.{Else-not-may}
 
+-- the grant may count, so it is one of the 64
 may : (c : Else-not-may) → member c.args.k c.args.known.possible ≡ true
 may c = sym c.may_count-may.ensures ∙ c.if-not-may.false
 

@@ -1,3 +1,4 @@
+-- The loop's invariant: `most` is above the names among the bytes that were looked at.
 use Prim.Native.Nat.{◌-◌, ◌≤◌}
 use Rattle.counting.proofs.Few.{NamesTo}
 use Rattle.counting.proofs.names_at.Given as goal

@@ -13,6 +13,7 @@ use Rattle.counting.proofs.Tests.{marked_job}
 use Rattle.counting.proofs.rows_clear.Goals as goal
 use Rattle.counting.proofs.rows_clear.Goals.{After-barring_of}
 
+-- the row that is tested is that of the coalitions of the job that bar the grant
 row : (c : After-barring_of) → let a = c.args in
     RowAt (mark (job_of a.n) (bars_at a.ledger.now a.label.now a.k)) c.loop-g.g c.barring_of.result
 row c =

@@ -1,3 +1,4 @@
+-- The loop's invariant: no coalition of the rows before g bars the grant, if none before the first one does.
 use Prim.Native.Nat.{◌-◌}
 use Rattle.words.specs.Evaluation.{job_of, ClearTo}
 use Rattle.counting.specs.Counted.{bars_at}

@@ -1,3 +1,4 @@
+-- 86 for the date, then for the count, then what adding gives.
 use native.Mathlib.Omega.{arith}
 use mathlib.Core.Path.{sym, ◌∙◌}
 use borrow.Author.Tests.{le-leb, lt-leb}

@@ -1,3 +1,4 @@
+-- The loop keeps what is to come.
 use mathlib.Core.Path.{◌≡◌}
 use Rattle.model.specs.Dates.{days_later}
 use Rattle.dates.proofs.days_later.Given as goal

@@ -1,3 +1,4 @@
+-- A first day of 0 is before every day.
 use native.Mathlib.Omega.{arith}
 use mathlib.Core.Path.{◌∙◌}
 use borrow.Author.Tests.{eq-eqb, lt-leb}

@@ -1,3 +1,4 @@
+-- A first day of 0 is not after any last.
 use mathlib.Core.Path.{◌∙◌}
 use borrow.Author.Tests.{eq-eqb}
 use Rattle.dates.proofs.Edges.{order_open, order_both}

@@ -1,3 +1,4 @@
+-- By its tests in their order.
 use native.Mathlib.Omega.{arith}
 use borrow.Author.Tests.{le-leb, lt-leb}
 use Rattle.model.specs.Dates.{year_of, month_of, day_of, real_date}

@@ -1,3 +1,4 @@
+-- A word has 64 marks.
 use native.Mathlib.Omega.{arith}
 use mathlib.Core.Path.{refl, sym}
 use Rattle.model.specs.Coalitions.{member}

@@ -1,3 +1,4 @@
+-- The refusals in their order, then the steps.
 use mathlib.Core.Path.{◌≡◌, sym, ◌∙◌}
 use mathlib.Core.Bool.{true}
 use Rattle.model.specs.Dates.{real_date}
@@ -15,10 +16,12 @@ returns-in_default c =
     let day = c.args.day in
     sym (book_refused _ _ _ day (sym c.real_date-real.ensures ∙ c.if-not-real.false) _ (ledgers.book_refused _ _ day _ _ _ (c.read_book-book.ensures day) c.in_default.is c.ledger_refusal.ensures))
 
+-- no refusal 86
 real : (c : In-Accepted) → real_date c.args.day ≡ true
 real c =
     sym c.real_date-real.ensures ∙ c.if-not-real.false
 
+-- the ledger and the label, where they were accepted
 book_of : (c : In-Accepted) → AcceptedBook c.args.ledger.now c.args.label.now c.in-Accepted.n c.in-Accepted.grants
 book_of c = accepted_book _ _ c.args.day _ _ (sym (c.read_book-book.ensures c.args.day) ∙ c.in-Accepted.is)
 

@@ -1,3 +1,4 @@
+-- The refusals in their order, by what each call ensures.
 use Prim.Native.Nat.{◌*◌, ◌≤◌}
 use native.Mathlib.Omega.{arith}
 use mathlib.Core.Path.{◌≡◌, refl, sym, ◌∙◌}
@@ -14,6 +15,7 @@ use Rattle.derivations.proofs.Checking.{tests, check_told, ready_for}
 use Rattle.derivations.proofs.check_step.Goals as goal
 use Rattle.derivations.proofs.check_step.Goals.{After-meets-met, After-step_at-step}
 
+-- a step has 136 bytes
 long : (c : After-step_at-step) → 136 ≤ length c.step_at-step.result.now
 long c =
     let a = c.args in
@@ -60,6 +62,7 @@ returns-then-not-counts c = λ l f of are.
 pub meets-met-requires : goal.meets-met-requires
 meets-met-requires c = long (goal.at.meets-met-requires c).After-step_at-step
 
+-- after the tests of the rest, the answer is that for the rule
 last : (c : After-meets-met) (l : Ledger) (f : Grant → Bool) → let a = c.args in
     LedgerOf a.ledger.now a.n a.grants l → a.counted ≡ grant_bits f l.grants → (met : Bool) → c.meets-met.result ≡ met → step_check (check_at l f a.derivation.now a.k) ≡ tests true true true met
 last c l f of are met e =

@@ -1,3 +1,4 @@
+-- The loop's invariant: the answer for the steps from k on is the answer for all.
 use Prim.Native.Nat.{◌-◌}
 use mathlib.Core.Bool.{Bool}
 use mathlib.Core.Path.{◌≡◌}

@@ -1,3 +1,4 @@
+-- One field after another.
 use mathlib.Core.Path.{◌≡◌, sym, ◌∙◌}
 use mathlib.Core.Bool.{Bool, ◌||◌, and-false}
 use lib.Dec.{eqb}
@@ -7,6 +8,7 @@ use Rattle.derivations.specs.Steps.{fields_form}
 use Rattle.derivations.proofs.fields_form.Goals as goal
 use Rattle.derivations.proofs.fields_form.Goals.{After-is_rule-known, After-used_or_zero-first, After-used_or_zero-second}
 
+-- what each test says
 known : (c : After-is_rule-known) (s : Bool) → c.is_rule-known.result ≡ s → is_rule (rule_of (byte 0 c.args.step.now)) ≡ s
 known c s e = sym c.is_rule-known.ensures ∙ e
 

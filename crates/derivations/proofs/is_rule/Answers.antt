@@ -1,3 +1,4 @@
+-- By the range of the rules that there are.
 use borrow.Author.Tests.{le-leb, lt-leb}
 use Rattle.derivations.proofs.Rules.{is_rule_lem}
 use Rattle.derivations.proofs.is_rule.Goals as goal

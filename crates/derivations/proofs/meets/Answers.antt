@@ -1,3 +1,4 @@
+-- One case for each rule.
 use native.Mathlib.Omega.{arith}
 use mathlib.Core.Path.{◌≡◌, refl, ap, ◌∙◌}
 use mathlib.Core.Bool.{Bool}
@@ -11,6 +12,7 @@ use Rattle.derivations.proofs.Meeting.{at_rule, static_met, grant_met}
 use Rattle.derivations.proofs.meets.Goals as goal
 use Rattle.derivations.proofs.meets.Goals.{After-step_at-b}
 
+-- the answer of the rule that byte 0 names, of the steps that bytes 1 and 2 name
 by_rule : (c : After-step_at-b) (l : Ledger) (rule : Rule) (r : Bool) → let a = c.args in
     rule_of (byte 0 a.step.now) ≡ rule → r ≡ meets l rule a.step.now c.step_at-a.result.now c.step_at-b.result.now → r ≡ meets_at l a.derivation.now a.step.now
 by_rule c l rule r e m =

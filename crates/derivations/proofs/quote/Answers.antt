@@ -11,6 +11,7 @@ use Rattle.derivations.proofs.Checking.{quote_told, quote_refused}
 use Rattle.derivations.proofs.quote.Goals as goal
 use Rattle.derivations.proofs.quote.Goals.{In-Accepted}
 
+-- what is not accepted gives the empty part
 none : (x : Checked) (part : List ℕ) → (x ≡ Accepted → ⊥) → if_accepted (checked_of x) part ≡ []
 none Accepted part h = absurd (h refl)
 none (Refused r) part h = refl

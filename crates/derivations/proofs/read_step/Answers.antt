@@ -1,3 +1,4 @@
+-- The refusals 61, 62 and 63 in their order.
 use mathlib.Core.Path.{◌≡◌, sym, ◌∙◌}
 use mathlib.Core.Bool.{Bool}
 use Rattle.model.specs.Bytes.{byte}

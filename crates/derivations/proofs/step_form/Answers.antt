@@ -1,3 +1,4 @@
+-- Fields, then filler.
 use mathlib.Core.Path.{sym, ◌∙◌}
 use Rattle.derivations.proofs.Rules.{step_forms}
 use Rattle.derivations.proofs.step_form.Goals as goal

@@ -1,3 +1,4 @@
+-- By the range of the rules that use byte 1.
 use borrow.Author.Tests.{le-leb, lt-leb}
 use Rattle.derivations.proofs.Rules.{uses_first}
 use Rattle.derivations.proofs.uses_first.Goals as goal

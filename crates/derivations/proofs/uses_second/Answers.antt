@@ -1,3 +1,4 @@
+-- By the range of the rules that use byte 2.
 use borrow.Author.Tests.{le-leb, lt-leb}
 use Rattle.derivations.proofs.Rules.{uses_second}
 use Rattle.derivations.proofs.uses_second.Goals as goal

@@ -1,3 +1,4 @@
+-- The loop's invariant: the first k bytes of the half are in the buffer.
 use Prim.Native.Nat.{◌-◌, ◌≤◌}
 use mathlib.Core.Path.{◌≡◌}
 use lib.Seq.{paste}

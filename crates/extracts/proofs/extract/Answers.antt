@@ -1,3 +1,4 @@
+-- The refusals in their order, and then the table.
 use Rattle.std.proofs.Common.{ℕ, ◌≡◌, true, List, length, arith, sym, ap, ◌∙◌}
 use lib.Seq.{paste}
 use Rattle.model.specs.Dates.{real_date}
@@ -20,9 +21,11 @@ returns-then-buffer-ne1024 c =
     let a = c.args in
     size_refused a.ledger.now a.label.now a.day a.buffer.now (sym c.real_date-real.ensures ∙ c.if-not-real.false) (λ e. omega arith)
 
+-- no refusal 86
 real : (c : Else-buffer-ne1024) → real_date c.args.day ≡ true
 real c = sym c.real_date-real.ensures ∙ c.if-not-real.false
 
+-- nor 51
 fits : (c : Else-buffer-ne1024) → length c.args.buffer.now ≡ 1024
 fits c = omega arith
 
@@ -32,6 +35,7 @@ returns-in_default c =
     let s = (goal.at.returns-in_default c).Else-buffer-ne1024 in
     book_refused a.ledger.now a.label.now a.day a.buffer.now (real s) (fits s) _ (ledgers.book_refused _ _ a.day _ _ _ (c.read_book-book.ensures a.day) c.in_default.is c.ledger_refusal.ensures)
 
+-- nothing can be refused any more
 book_of : (c : In-Accepted) → AcceptedBook c.args.ledger.now c.args.label.now c.in-Accepted.names c.in-Accepted.grants
 book_of c = accepted_book _ _ c.args.day _ _ (sym (c.read_book-book.ensures c.args.day) ∙ c.in-Accepted.is)
 

@@ -14,6 +14,7 @@ pub loop-g-init : goal.loop-g-init
 loop-g-init c =
     (omega arith, (ap length c.requires.0, ap length c.requires.1), filled_start c.args.n _ c.args.see.now c.args.change.now c.requires.0 c.requires.1)
 
+-- there are 16 rows at most
 few : (c : In-loop-g) → c.loop-g.g < 16
 few c = omega (arith, c.row_count-rows.ensures, rows_few c.args.n)
 

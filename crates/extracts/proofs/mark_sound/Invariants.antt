@@ -1,3 +1,4 @@
+-- The loop's invariant: both halves have the marks of the first g rows.
 use Prim.Native.Nat.{◌-◌, ◌≤◌}
 use mathlib.Core.Path.{◌≡◌}
 use lib.ListN.{length}

@@ -1,3 +1,4 @@
+-- The loop's invariant: `any` is 0 and the bytes to come are 00 exactly if all bytes are.
 use Prim.Native.Nat.{◌-◌, ◌≤◌}
 use mathlib.Core.Path.{◌≡◌}
 use mathlib.Core.Bool.{◌&&◌}

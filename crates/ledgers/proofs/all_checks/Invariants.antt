@@ -1,3 +1,4 @@
+-- The loop's invariant: the checks from block k on hold exactly if all do.
 use Prim.Native.Nat.{◌-◌}
 use mathlib.Core.Path.{◌≡◌}
 use mathlib.Core.Bool.{◌&&◌}

@@ -1,3 +1,4 @@
+-- The ledger's refusals, then the label's.
 use native.Mathlib.Omega.{arith}
 use mathlib.Core.Path.{sym, ◌∙◌}
 use Rattle.terms.proofs.Accepted.{accepted_term, term_refused, refusal_small}

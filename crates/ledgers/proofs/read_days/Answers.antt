@@ -1,3 +1,4 @@
+-- 84 for either date, then 85 for their order.
 use mathlib.Core.Path.{sym, ap, ap₂, ◌∙◌}
 use mathlib.Core.Bool.{and-false}
 use Rattle.model.specs.Dates.{date_or_none, in_order}

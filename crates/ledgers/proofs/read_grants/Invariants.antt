@@ -1,3 +1,4 @@
+-- The loop's invariant: the answer for the blocks from k on is the answer for all.
 use Prim.Native.Nat.{◌-◌, ◌≤◌}
 use mathlib.Core.Path.{◌≡◌}
 use Rattle.model.specs.Ledgers.{grant_blocks, read_grants}

@@ -1,3 +1,4 @@
+-- The refusals in their order, by what each call ensures.
 use Prim.Native.Nat.{ℕ, ◌/◌, ◌-◌, ◌≤◌}
 use native.Mathlib.Omega.{arith}
 use mathlib.Core.Path.{◌≡◌, sym, ap, ◌∙◌}

@@ -13,6 +13,7 @@ use Rattle.live.proofs.Stepping.{part_is, AcceptedBlock, accepted_block, refused
 use Rattle.live.proofs.add.Goals as goal
 use Rattle.live.proofs.add.Goals.{In-Accepted}
 
+-- the grant of the block, where it was accepted
 new : (c : In-Accepted) → let a = c.args in AcceptedBlock a.live.names a.block.now
 new c = accepted_block _ _ _ c.read_block-read.ensures c.in-Accepted.is
 

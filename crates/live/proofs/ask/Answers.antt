@@ -1,3 +1,4 @@
+-- The refusals in their order, and what is given where nothing is refused.
 use native.Mathlib.Omega.{arith}
 use mathlib.Core.Path.{sym, ◌∙◌}
 use Rattle.terms.proofs.Accepted.{AcceptedTerm, accepted_term, term_refused, refusal_small}
@@ -19,6 +20,7 @@ returns-in_default c = λ x ledger h.
 pub overflow_add-result-in_default-second : goal.overflow_add-result-in_default-second
 overflow_add-result-in_default-second c = omega (arith, refusal_small _ _ _ _ c.read_term-second.ensures c.term_refusal-in_default-second.ensures)
 
+-- p and q, where they were accepted
 first : (c : In-Accepted) → let a = c.args in AcceptedTerm a.live.names a.p.now
 first c = accepted_term _ _ (sym c.read_term-first.ensures ∙ c.in-Accepted.is)
 

@@ -1,3 +1,4 @@
+-- The refusals in their order, and what is given where nothing is refused.
 use mathlib.Core.Path.{◌≡◌, refl, sym, ◌∙◌}
 use native.Mathlib.Omega.{arith}
 use lib.ListN.{replicate}
@@ -8,9 +9,11 @@ use Rattle.live.proofs.Making.{made_day, made_few, made_many, made_label, made_n
 use Rattle.live.proofs.make.Goals as goal
 use Rattle.live.proofs.make.Goals.{Else-not-real, In-Accepted}
 
+-- the day is real, where it was not refused
 real : (c : Else-not-real) → real_date c.args.day ≡ true
 real c = sym c.real_date-real.ensures ∙ c.if-not-real.false
 
+-- the label, where it was accepted
 read : (c : In-Accepted) → let a = c.args in AcceptedTerm a.n a.label.now
 read c = accepted_term _ _ (sym c.read_term-read.ensures ∙ c.in-Accepted.is)
 

@@ -1,3 +1,4 @@
+-- In each arm the character is a number, at which `last_of` computes; in the last it is a letter or none.
 use Rattle.std.proofs.Common.{◌-◌, arith}
 use Rattle.std.proofs.lemmas.Bool.{lt-leb, le-leb, lt-ltb, le-ltb}
 use Rattle.model.specs.Terms.{codes}

@@ -1,3 +1,4 @@
+-- By the last character, and whether a 1 stands before it.
 use native.Mathlib.Omega.{arith}
 use mathlib.Core.Path.{◌≡◌, sym, ◌∙◌}
 use mathlib.Core.Bool.{true, false}

@@ -1,3 +1,4 @@
+-- Each return is a law of `proofs/Quorums.antt`.
 use Rattle.std.proofs.Common.{◌≡◌, ◌-◌, ◌≤◌, true, sym, ◌∙◌, arith, rules}
 use Rattle.model.specs.Notation.{ends_in}
 use Rattle.notation.specs.Reading.{backward}
@@ -25,6 +26,7 @@ pub returns-then-not-parted : goal.returns-then-not-parted
 returns-then-not-parted c =
     no_colon _ _ _ _ _ _ _ (second (goal.at.returns-then-not-parted c).In-Of) c.if-m-many.false (sym c.ends_in-parted.ensures ∙ c.if-not-parted.true)
 
+-- the colon before it
 parted : (c : Else-not-parted) → ends_in 0x3A (backward c.args.text.now c.in-Of.colon) ≡ true
 parted c = sym c.ends_in-parted.ensures ∙ c.if-not-parted.false
 
@@ -48,6 +50,7 @@ returns-then-not-fits c =
     let p = goal.at.returns-then-not-fits c in
     out_of_range _ _ _ _ _ _ _ (second p.In-Of) c.if-m-many.false (parted p.Else-not-parted) _ _ (first p.In-Of-first) (sym c.in_range-fits.ensures ∙ c.if-not-fits.true)
 
+-- there is room for three codes more
 room : (c : In-Of-first) → 3 ≤ c.args.to
 room c =
     let p = goal.at.In-Of-first c in

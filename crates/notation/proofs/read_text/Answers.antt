@@ -1,3 +1,4 @@
+-- Each return is a law of `proofs/Calls.antt`.
 use Rattle.std.proofs.Common.{ℕ, ◌-◌, ◌++◌, List, length, take, drop, replicate, sym, ap, ◌∙◌, arith, inl, inr}
 use lib.Seq.{take-length}
 use mathlib.Core.Logic.{⊎_elim}
@@ -20,6 +21,7 @@ returns-in_default c =
     text_82 _ _ _ (omega arith) (omega arith) (omega arith) (omega arith) (omega arith)
     (got_none c.args.n 2 c.args.text.now (length c.args.text.now) 256 (replicate 256 0) c.read_either-read.new.scratch c.read_either-read.result c.read_either-read.ensures c.in_default.is)
 
+-- what was read
 whole : (c : In-Before) → Got c.args.n 2 c.args.text.now (length c.args.text.now) 256 (replicate 256 0) c.read_either-read.new.scratch c.in-Before.start c.in-Before.from
 whole c = got c.args.n 2 c.args.text.now (length c.args.text.now) 256 (replicate 256 0) c.read_either-read.new.scratch _ _ c.read_either-read.result c.read_either-read.ensures c.in-Before.is
 

@@ -1,3 +1,4 @@
+-- The loop's invariant: the digits before digit j are lowered, and what is borrowed into digit j.
 use mathlib.Core.Bool.{Bool}
 use Prim.Native.Nat.{ℕ, ◌-◌, ◌≤◌, ◌<◌}
 use Rattle.words.specs.FourWords.{RowAt}

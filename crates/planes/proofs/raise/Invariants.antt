@@ -1,3 +1,4 @@
+-- The loop's invariant: the digits before digit j are raised, and what is carried into digit j.
 use mathlib.Core.Bool.{Bool}
 use Prim.Native.Nat.{ℕ, ◌-◌, ◌≤◌, ◌<◌}
 use Rattle.words.specs.FourWords.{RowAt}

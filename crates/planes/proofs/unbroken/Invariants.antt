@@ -1,3 +1,4 @@
+-- The loop's invariant: those that are left have no digit before digit j.
 use mathlib.Core.Bool.{Bool}
 use Prim.Native.Nat.{ℕ, ◌-◌, ◌≤◌, ◌<◌}
 use Rattle.words.specs.FourWords.{RowAt}

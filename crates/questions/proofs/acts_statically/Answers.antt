@@ -11,19 +11,16 @@ use Rattle.questions.specs.Searching.{verdict_of}
 use Rattle.questions.proofs.Refuting.{judged_static}
 use Rattle.questions.proofs.acts_statically.Goals as goal
 
+-- every coalition keeps no grants
 all_sound : (ledger : List ℕ) (chosen : ℕ) (s : Side) (c : ℕ) → sound_in ledger 0 chosen s c ≡ true
 unfolding sound_in chosen_in sound
 all_sound ledger chosen s c = cc
 
--- NO GOAL for enum-told
--- enum_told c = search rules
--- NO GOAL for enum-told-2
--- enum-told-2 c = search rules
 pub returns-in-Holds : goal.returns-in-Holds
 returns-in-Holds c = sym ((judged_static _ _ _ _ (all_sound _ _)).0 (sym c.judge-verdict.ensures ∙ ap verdict_of c.in-Holds.is))
 
-not-both : (s : Side) (c : ℕ) → refuted s c ≡ holds → false ≡ true
-not-both s c e = cc
+not_both : (s : Side) (c : ℕ) → refuted s c ≡ holds → false ≡ true
+not_both s c e = cc
 
 pub returns-in-Refuted : goal.returns-in-Refuted
-returns-in-Refuted c = sym (false_of _ (λ e. false≢true (not-both _ _ (sym (ap verdict_of c.in-Refuted.is) ∙ c.judge-verdict.ensures ∙ (judged_static _ _ _ _ (all_sound _ _)).1 e))))
+returns-in-Refuted c = sym (false_of _ (λ e. false≢true (not_both _ _ (sym (ap verdict_of c.in-Refuted.is) ∙ c.judge-verdict.ensures ∙ (judged_static _ _ _ _ (all_sound _ _)).1 e))))

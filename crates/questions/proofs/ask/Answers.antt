@@ -1,3 +1,4 @@
+-- The refusals in their order, and the answer where nothing is refused.
 use native.Mathlib.Omega.{arith}
 use mathlib.Core.Path.{◌≡◌, sym, ap, ◌∙◌}
 use mathlib.Core.Bool.{true}
@@ -13,6 +14,7 @@ use Rattle.questions.proofs.ask.Goals.{Else-not-real, In-Accepted, In-Accepted-f
 pub returns-then-not-real : goal.returns-then-not-real
 returns-then-not-real c = ask_day _ _ _ _ _ _ (sym c.real_date-real.ensures ∙ c.if-not-real.true)
 
+-- no refusal 86
 real : (c : Else-not-real) → real_date c.args.day ≡ true
 real c = sym c.real_date-real.ensures ∙ c.if-not-real.false
 
@@ -22,6 +24,7 @@ returns-in_default c = ask_ledger _ _ _ _ _ _ (real (goal.at.returns-in_default 
 pub overflow_add-result : goal.overflow_add-result
 overflow_add-result c = omega (arith, refusal_small _ _ _ _ c.read_term-first.ensures c.term_refusal.ensures)
 
+-- the ledger, p, q and the label, where they were accepted
 book : (c : In-Accepted) → AcceptedLedger c.args.ledger.now c.in-Accepted.names c.in-Accepted.grants
 book c = accepted_ledger _ _ _ (sym c.read_ledger-book.ensures ∙ c.in-Accepted.is)
 

@@ -23,6 +23,7 @@ loop-g-init c =
     let R : Marks = refuters_of a.relation a.n (sound_in a.ledger.now a.grants (counted_in a.ledger.now a.n a.grants a.label.now a.day)) (term_in a.p.now) (term_in a.q.now) in
     (c.row_count-rows.ensures, omega arith, lowest-zero (R confidentiality), found_none R, rw c.unknown-known.ensures (known_nothing _))
 
+-- the sound coalitions, and the refuters that are searched for
 abbrev sound : After-sift-sifted → Marks
 sound o =
     let a = o.args in
@@ -36,6 +37,7 @@ refuters o =
 few : (c : After-sift-sifted) → c.loop-g.g < 16
 few c = omega (arith, c.loop-g.invariant.0, rows_few c.args.n)
 
+-- what is left of row g
 sifted : (c : After-sift-sifted) → let a = c.args in
     SiftedTo (counts_at a.ledger.now a.n a.label.now a.day) (λ s e. still_of c.loop-g.found (opposed_of a.relation a.n (term_in a.p.now) (term_in a.q.now)) s e && sound c s e) c.loop-g.g c.sift-sifted.result
 sifted c =
@@ -44,6 +46,7 @@ sifted c =
       so = c.loop-g.invariant.4;
     }
 
+-- is what can still decide
 deciding : (c : After-sift-sifted) → Deciding (refuters c) c.loop-g.found c.loop-g.g c.sift-sifted.result.left
 deciding c =
     let a = c.args in

@@ -4,10 +4,6 @@ use Rattle.words.specs.FourWords.{each_word}
 use Rattle.questions.proofs.Refuting.{acts_rows, flows_rows}
 use Rattle.questions.proofs.opposed.Goals as goal
 
--- NO GOAL for enum-told
--- enum_told c = search rules
--- NO GOAL for enum-told-2
--- enum-told-2 c = search rules
 pub returns-in-ActsFor : goal.returns-in-ActsFor
 returns-in-ActsFor c =
     rw c.in-ActsFor.is

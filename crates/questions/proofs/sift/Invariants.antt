@@ -1,3 +1,4 @@
+-- The loop's invariant: what is left keeps the grants before grant k that count.
 use Prim.Native.Nat.{◌-◌, ◌≤◌}
 use Rattle.model.specs.Coalitions.{Marks}
 use Rattle.counting.specs.Counted.{counts_at, counted_in}

@@ -11,6 +11,7 @@ returns-then-none c f h =
     let counts = counts_at c.args.ledger.now c.args.n c.args.label.now c.args.day in
     sift_kept counts c.args.k c.requires (grant_in c.args.ledger.now c.args.k) f _ _ h _ (c.broken-gone.ensures f h.rows) (sym c.none.ensures ∙ c.if-none.true)
 
+-- the grant may count
 may : (c : Else-not-may) → let a = c.args in member a.k a.of.known.possible ≡ true
 may c = sym c.may_count-may.ensures ∙ c.if-not-may.false
 

@@ -1,3 +1,4 @@
+-- Case by case.
 use Rattle.model.specs.Answers.{number}
 use Rattle.rights.proofs.checked_number.Goals as goal
 

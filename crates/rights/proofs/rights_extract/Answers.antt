@@ -1,3 +1,4 @@
+-- The number and the buffer of what `extract` gives.
 use Rattle.model.specs.Answers.{number}
 use Rattle.extracts.specs.Results.{extracted_of}
 use Rattle.model.proofs.Outcomes.{outcome_number}

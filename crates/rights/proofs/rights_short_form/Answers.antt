@@ -1,3 +1,4 @@
+-- The number and the buffer of what `short_form` gives; a length fits in 32 bits.
 use Rattle.std.proofs.Common.{arith, sym, ap, ◌∙◌, ◌≤◌}
 use Rattle.model.specs.Answers.{number, Outcome}
 use Rattle.sperner.proofs.Forms.{written_few}

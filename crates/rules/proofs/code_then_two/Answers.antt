@@ -1,3 +1,4 @@
+-- The front is a code and the first part, the rest the second.
 use native.Mathlib.Omega.{arith}
 use mathlib.Core.Path.{sym, ◌∙◌}
 use mathlib.Core.List.{◌++◌}

@@ -1,3 +1,4 @@
+-- The loop's invariant: the bytes from place i on are the same exactly if all are.
 use Prim.Native.Nat.{◌-◌, ◌≤◌}
 use mathlib.Core.Path.{◌≡◌}
 use lib.ListN.{length, drop}

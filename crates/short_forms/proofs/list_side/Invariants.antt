@@ -1,3 +1,4 @@
+-- The loop has listed the words that it passed.
 use mathlib.Core.Path.{◌≡◌}
 use Prim.Native.Nat.{◌-◌, ◌≤◌}
 use Rattle.words.specs.Evaluation.{word_count}

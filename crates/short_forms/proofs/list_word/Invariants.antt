@@ -1,3 +1,4 @@
+-- The loop has listed the bits before number c.
 use Prim.Native.Nat.{◌+◌, ◌-◌}
 use Rattle.short_forms.proofs.Sides.{WordListed}
 use Rattle.short_forms.proofs.list_word.Given as goal

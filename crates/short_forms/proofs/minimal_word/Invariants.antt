@@ -1,3 +1,4 @@
+-- The loop has taken away the coalitions that are marked without one of the names passed.
 use mathlib.Core.Path.{◌≡◌}
 use Prim.Native.Nat.{◌-◌, ◌*◌, ◌≤◌}
 use Rattle.model.specs.Coalitions.{packed}

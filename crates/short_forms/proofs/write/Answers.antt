@@ -11,9 +11,11 @@ use Rattle.short_forms.proofs.Sides.{sides_written}
 use Rattle.short_forms.proofs.write.Goals as goal
 use Rattle.short_forms.proofs.write.Goals.{After-list_side-first}
 
+-- each table has the words of its side
 tabled : {t : Term} {s : Side} {before after : List ℕ} (n : ℕ) → EvaluatedTo t s (4 * row_count n) before after → 64 ≤ length before → Tabled t s (word_count n) after
 tabled n e room = tabled_few (words_in_rows n) (e.table (omega (arith, rows_few n)))
 
+-- so the listing of either fits half of the buffer
 fit : {t : Term} {a b see change : List ℕ} (n : ℕ) → n ≤ 12
     → EvaluatedTo t confidentiality (4 * row_count n) a see × EvaluatedTo t integrity (4 * row_count n) b change → (64 ≤ length a) × (64 ≤ length b)
     → (length (listing n (irredundant n (marked see))) ≤ 1850) × (length (listing n (irredundant n (marked change))) ≤ 1850)
@@ -25,6 +27,7 @@ list_side-first-requires c =
     let change = c.evaluate.ensures.change_side in
     (c.requires.0, omega (arith, words_few c.args.n, see.same, change.same), omega (arith, c.requires.1, fit c.args.n c.requires.0 (see, change) (omega arith, omega arith)))
 
+-- what the first side takes
 few : (c : After-list_side-first) → c.list_side-first.result ≤ 1850
 few c =
     let see = c.evaluate.ensures.see_side in

@@ -11,6 +11,7 @@ use Rattle.soundness.proofs.Steps.{broken_rows, broken_none}
 use Rattle.soundness.proofs.broken.Goals as goal
 use Rattle.soundness.proofs.broken.Goals.{After-hold-from}
 
+-- the rows of the grant's p, and of those that hold it
 p_rows : (c : After-hold-from) → let a = c.args in RowsAt (held (grant_in a.ledger.now a.k).p) a.g c.hold-from.result.rows
 p_rows c =
     let a = c.args in

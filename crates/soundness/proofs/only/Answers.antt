@@ -1,3 +1,4 @@
+-- Side by side.
 use Rattle.std.proofs.Common.{rules}
 use Rattle.words.proofs.FourWords.{row_none, rows_of}
 use Rattle.soundness.proofs.only.Goals as goal

@@ -6,6 +6,7 @@ use Rattle.soundness.proofs.Testing.{only_broken, only-sound}
 use Rattle.soundness.proofs.test_coalition.Goals as goal
 use Rattle.soundness.proofs.test_coalition.Goals.{After-none}
 
+-- what is left of the coalition alone
 left : (c : After-none) → let a = c.args in TestedTo a.ledger.now a.grants a.chosen (only (side_of a.side) a.c) (a.c / 256) c.test_rows-kept.result
 left c = c.test_rows-kept.ensures _ c.only.ensures
 

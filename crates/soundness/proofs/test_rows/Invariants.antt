@@ -1,3 +1,4 @@
+-- The loop's invariant: the rows of those that keep the grants before grant k whose bit is set, and how many of these were tested.
 use Prim.Native.Nat.{◌-◌, ◌/◌, ◌^◌, ◌≤◌}
 use mathlib.Core.Path.{◌≡◌}
 use Rattle.model.specs.Coalitions.{Marks}

@@ -1,3 +1,4 @@
+-- A largest layer is small.
 use Prim.Native.Nat.{◌≤◌, min}
 use native.Mathlib.Omega.{arith}
 use Rattle.sperner.proofs.Layers.{twelve_names}

@@ -1,3 +1,4 @@
+-- A count of ones is a size.
 use Rattle.sperner.proofs.Sizes.{ones_size}
 use Rattle.sperner.proofs.size.Goals as goal
 

@@ -1,3 +1,4 @@
+-- The loop's invariant: the first k words are 0.
 use mathlib.Core.Path.{◌≡◌}
 use Prim.Native.Nat.{◌-◌, ◌≤◌}
 use lib.ListN.{length}

@@ -32,9 +32,11 @@ few c = omega (arith, c.loop-g.invariant.0, rows_few c.args.n)
 pub sound-against-requires : goal.sound-against-requires
 sound-against-requires c = omega (arith, c.loop-g.invariant.0, rows_few c.args.n)
 
+-- the refuters that are searched for
 abbrev refuters : After-sound-against → Numbers → Marks
 refuters o f = let a = o.args in refuters_of a.relation a.n (sound_by (of_job a.n f)) (term_in a.p.now) (term_in a.q.now)
 
+-- what is left of row g is what can still decide
 deciding : (c : After-sound-against) (f : Numbers) → Stored c.args.n c.args.numbers.now f → Small f → Deciding (refuters c f) c.loop-g.found c.loop-g.g c.sound-against.result
 deciding c f h small =
     let a = c.args in

@@ -1,3 +1,4 @@
+-- The loop's invariant: the verdict on the coalitions before row g, none of which refutes on the see side.
 use Prim.Native.Nat.{◌*◌, ◌-◌, ◌≤◌}
 use mathlib.Core.Path.{◌≡◌}
 use Rattle.model.specs.Sides.{confidentiality}

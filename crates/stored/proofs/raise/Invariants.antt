@@ -1,3 +1,4 @@
+-- The loop's invariant: the rows before row g are raised.
 use mathlib.Core.Path.{◌≡◌}
 use Prim.Native.Nat.{◌-◌, ◌≤◌}
 use Rattle.model.specs.Grants.{marks_of, breaks}

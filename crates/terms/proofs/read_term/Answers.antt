@@ -1,3 +1,4 @@
+-- Each return is a case of `read_term`, by the length and by the reading at place 0.
 use Rattle.std.proofs.Common.{sym, ap, ◌∙◌, arith, inl, inr}
 use mathlib.Core.Logic.{⊎_elim}
 use Rattle.terms.specs.Readings.{refusal_of}

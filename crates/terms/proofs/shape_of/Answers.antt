@@ -1,3 +1,4 @@
+-- In each arm the code is a number, at which `code_of` computes.
 use Rattle.std.proofs.Common.{rules, arith}
 use Rattle.std.proofs.lemmas.Grind.{common_steps}
 use Rattle.model.specs.Terms.{code_of}

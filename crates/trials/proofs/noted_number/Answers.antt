@@ -1,3 +1,4 @@
+-- Case by case.
 use native.Mathlib.Omega.{arith}
 use Rattle.model.specs.Answers.{number}
 use Rattle.trials.proofs.noted_number.Goals as goal

@@ -1,3 +1,4 @@
+-- The refusals in their order, and then the test.
 use Rattle.std.proofs.Common.{◌≡◌, true, sym, ap, ◌∙◌}
 use Rattle.model.specs.Sides.{Side}
 use Rattle.model.specs.Dates.{real_date}
@@ -12,6 +13,7 @@ use Rattle.trials.proofs.trials_test_coalition.Goals.{After-test_coalition, Else
 pub returns-then-not-real : goal.returns-then-not-real
 returns-then-not-real c = day_refused _ _ _ _ _ (sym c.real_date-real.ensures ∙ c.if-not-real.true)
 
+-- no refusal 86
 real : (c : Else-not-real) → real_date c.args.day ≡ true
 real c = sym c.real_date-real.ensures ∙ c.if-not-real.false
 
@@ -20,9 +22,11 @@ returns-in_default c =
     let d = c.args.day in
     book_refused _ _ d _ _ (real (goal.at.returns-in_default c).Else-not-real) _ (ledgers.book_refused _ _ d _ _ _ (c.read_book-book.ensures d) c.in_default.is c.ledger_refusal.ensures)
 
+-- nothing can be refused any more
 book_of : (c : In-Accepted) → AcceptedBook c.args.ledger.now c.args.label.now c.in-Accepted.names c.in-Accepted.grants
 book_of c = accepted_book _ _ c.args.day _ _ (sym (c.read_book-book.ensures c.args.day) ∙ c.in-Accepted.is)
 
+-- the test, on the side that the number stands for
 tested : (c : After-test_coalition) → let a = c.args in
     tested_of c.test_coalition.result ≡ test_in a.ledger.now c.in-Accepted.grants c.counted-counted.result (side_numbered a.side) a.coalition
 tested c =

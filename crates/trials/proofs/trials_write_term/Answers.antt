@@ -1,3 +1,4 @@
+-- The number and the buffer of what `write_term` gives.
 use mathlib.Core.Path.{sym, ap, ◌∙◌}
 use native.Mathlib.Omega.{arith}
 use Rattle.model.specs.Answers.{Outcome}

@@ -1,3 +1,4 @@
+-- The loop's invariant: the rows before g are evaluated.
 use mathlib.Core.Path.{◌≡◌}
 use Prim.Native.Nat.{◌*◌, ◌-◌, ◌≤◌}
 use Rattle.model.specs.Sides.{confidentiality, integrity}

@@ -1,3 +1,4 @@
+-- The loop's invariant: the rows above j are done, the others as before.
 use Prim.Native.Nat.{◌≤◌}
 use Rattle.words.proofs.Tallies.{WeighedFrom}
 use Rattle.words.proofs.weigh.Given as goal

@@ -1,3 +1,4 @@
+-- In each arm the code is a number, at which `mark_of` computes.
 use Rattle.std.proofs.lemmas.Bool.{lt-ltb}
 use Rattle.std.proofs.Common.{arith}
 use Rattle.std.proofs.lemmas.Grind.{common_steps}

@@ -1,3 +1,4 @@
+-- Each return is a law of `proofs/Calls.antt`.
 use Rattle.std.proofs.Common.{sym, ap, ◌∙◌, arith, inl, inr}
 use mathlib.Core.Logic.{⊎_elim}
 use Rattle.terms.specs.Readings.{term_refusal}

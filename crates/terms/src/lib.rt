@@ -5,9 +5,60 @@ ghost use Rattle.std.specs.Prelude.{◌≡◌, true, ◌+◌};
 ghost use Rattle.model.specs.Readings.{accepted};
 ghost use Rattle.model.specs.Terms.{quorate, code_of, read_term};
 ghost use Rattle.refusals.specs.Results.{term_reading, done};
+ghost use Rattle.model.specs.Texts.{joiner, join_rank};
+ghost use Rattle.terms.specs.Joiners.{kind, joiner_code, joiner_at};
 ghost use Rattle.terms.specs.Readings.{shape_of, part_at};
 
 use refusals::TermRefusal;
+
+// What joins two parts: both are held, or either.
+#[derive(Clone, Copy, Debug, PartialEq, Eq)]
+pub enum Joiner {
+    Both,
+    Either,
+}
+
+impl Joiner {
+    // The joiner whose code this is, if it is one's.
+    pub fn of(code: u8) -> Option<Joiner>
+        ensures { result ≡ joiner_at code }
+    {
+        match code {
+            0x30 => Some(Joiner::Both),
+            0x31 => Some(Joiner::Either),
+            _ => None,
+        }
+    }
+
+    pub fn code(self) -> u8
+        ensures { result ≡ joiner_code self }
+    {
+        match self {
+            Joiner::Both => 0x30,
+            Joiner::Either => 0x31,
+        }
+    }
+
+    // Its character on paper (document 02, K1).
+    pub fn mark(self) -> u8
+        ensures { result ≡ joiner (kind self) }
+    {
+        match self {
+            Joiner::Both => b'&',
+            Joiner::Either => b'|',
+        }
+    }
+
+    // The rank of what it joins, on paper: that of its left part at most, and over that of its right.
+    pub fn rank(self) -> u8
+        ensures { result ≡ join_rank (kind self) }
+    {
+        match self {
+            Joiner::Both => 1,
+            Joiner::Either => 2,
+        }
+    }
+}
 
 // How many parts a code asks for.
 #[derive(Clone, Copy, Debug, PartialEq, Eq)]

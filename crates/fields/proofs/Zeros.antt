@@ -1,14 +1,10 @@
 -- Filler, told by what all bytes leave when they are put together by `or`. Assumes nothing.
-use Prim.Native.Nat.{ℕ, zero, suc, ◌+◌, ◌≤◌, ◌<◌}
-use native.Mathlib.Numerals.{add-one}
-use native.Mathlib.Omega.{arith}
-use mathlib.Core.Path.{◌≡◌, refl, sym, ap, ◌∙◌}
-use mathlib.Core.Bool.{Bool, true, ◌&&◌, and_assoc, and-true}
-use mathlib.Core.List.{List}
-use lib.Dec.{eqb, eqb-suc-zero}
-use lib.Bits.{bit_or, or_add_and, and_le_l, and_le_r, or_zero_l}
-use lib.ListN.{length, drop, get_or, drop_of_length-le}
-use lib.Seq.{drop-cons}
+use Rattle.std.proofs.Common.{◌≡◌, ℕ, zero, suc, ◌+◌, ◌-◌, ◌≤◌, ◌<◌, Bool, true, false, ◌&&◌, ◌∙◌, refl, sym, List, [], ◌∷◌, ap, arith, length, take, drop, length-take, bit_or, fold, eqb}
+use native.Mathlib.Numerals.{unary_clauses}
+use lib.Seq.{take_all, take-nil, drop-drop}
+use mathlib.Core.Bool.{and_assoc, and-true}
+use lib.Dec.{eqb-suc-zero}
+use lib.Bits.{or_add_and, and_le_l, and_le_r, or_zero_l}
 use borrow.Author.Tests.{ne_eqb}
 use Rattle.model.specs.Bytes.{zeros}
 
@@ -18,16 +14,23 @@ or_none zero zero = refl
 or_none zero (suc b) = rw (or_zero_l (suc b))
 or_none (suc a) b = rw eqb-suc-zero (ne_eqb (bit_or (suc a) b) 0 (λ e. omega (arith, or_add_and (suc a) b, and_le_l (suc a) b, and_le_r (suc a) b)))
 
-module _ (part : List ℕ) where
-  -- before byte i: the bytes passed are 00, and so are those to come, exactly if all are
-  pub filler_more : (i any : ℕ) (all : Bool) → i < length part → (eqb any 0 && zeros (drop i part)) ≡ all → (eqb (bit_or any (get_or part i 0)) 0 && zeros (drop (i + 1) part)) ≡ all
-  unfolding zeros
-  filler_more i any all h e =
-      let split : zeros (drop i part) ≡ (eqb (get_or part i 0) 0 && zeros (drop (i + 1) part)) = rw (add-one i, drop-cons part i 0 h) in
-      rw (or_none any (get_or part i 0), and_assoc) (sym (ap (λ (z : Bool). eqb any 0 && z) split) ∙ e)
+-- what is put in to `any` leaves 0 exactly if `any` and all bytes are 00
+pub or_all : (l : List ℕ) (any : ℕ) → eqb (fold (λ a b. bit_or a b) any l) 0 ≡ (eqb any 0 && zeros l)
+unfolding zeros
+or_all [] any = sym (and-true (eqb any 0))
+or_all (b ∷ l) any = or_all l (bit_or any b) ∙ rw (or_none any b, and_assoc)
 
-  pub filler_end : (i any : ℕ) (all : Bool) → length part ≤ i → (eqb any 0 && zeros (drop i part)) ≡ all → eqb any 0 ≡ all
-  unfolding zeros
-  filler_end i any all h e =
-      let none : zeros (drop i part) ≡ true = rw (drop_of_length-le part {i = i} h) in
-      sym (and-true (eqb any 0)) ∙ sym (ap (λ (z : Bool). eqb any 0 && z) none) ∙ e
+-- What is left of the first n, once k are passed.
+drop-take : (k n : ℕ) (l : List ℕ) → drop k (take n l) ≡ take (n - k) (drop k l)
+drop-take zero n l = simp unary_clauses
+drop-take (suc k) zero l =
+    let none : 0 - suc k ≡ 0 = omega arith in
+    rw none
+drop-take (suc k) (suc n) [] = sym (take-nil (suc n - suc k))
+drop-take (suc k) (suc n) (b ∷ l) = simp unary_clauses (drop-take k n l)
+
+-- of a field of n bytes, what is behind its first k
+pub behind : (at k n : ℕ) (l : List ℕ) → take n (drop k (take n (drop at l))) ≡ take (n - k) (drop (at + k) l)
+behind at k n l =
+    let rest = drop (at + k) l in
+    simp (drop-take, drop-drop) (take_all n (take (n - k) rest) (omega (arith, length-take (n - k) rest)))

@@ -1,1 +1,2 @@
--- The promises cite the model alone.
+-- The promises cite the model, and one definition.
+pub mod Terms

@@ -3,32 +3,24 @@
 
 ghost use Rattle.std.specs.Prelude.{◌≡◌, ◌*◌};
 ghost use Rattle.model.specs.Bytes.{byte, field, two_bytes, four_bytes, zeros, multiple_up_to};
+ghost use Rattle.fields.specs.Terms.{past_term};
 
 // All bytes of the part are 00. No branch for a byte: what is not 0 stays in `any`.
 pub fn filler(part: &[u8]) -> bool
     ensures { result ≡ zeros part.now }
 {
-    let mut any: u8 = 0;
-    let mut i: usize = 0;
-    while i < part.len() {
-        any |= part[i];
-        i += 1;
-    }
-    any == 0
+    part.iter().fold(0u8, |any, b| any | *b) == 0
 }
 
 // A two-byte field, big-endian, as a number. A byte that is missing counts as 00.
 pub fn two_bytes(bytes: &[u8], at: usize) -> u16
     ensures { result ≡ two_bytes at bytes.now }
 {
-    if bytes.len() <= at {
-        return 0;
+    match part(bytes, at, 2) {
+        [high, low] => *high as u16 * 256 + *low as u16,
+        [high] => *high as u16 * 256,
+        _ => 0,
     }
-    let high = bytes[at] as u16 * 256;
-    if bytes.len() - at == 1 {
-        return high;
-    }
-    high + bytes[at + 1] as u16
 }
 
 // A four-byte field likewise, wherever the bytes end.
@@ -45,15 +37,14 @@ fn cut_field(bytes: &[u8], at: usize) -> u32
 pub fn four_bytes(bytes: &[u8], at: usize) -> u32
     ensures { result ≡ four_bytes at bytes.now }
 {
-    if bytes.len() < 4 {
-        return cut_field(bytes, at);
+    match bytes.get(at..) {
+        Some([a, b, c, d, ..]) => {
+            let high = *a as u32 * 256 + *b as u32;
+            let low = *c as u32 * 256 + *d as u32;
+            high * 65536 + low
+        }
+        _ => cut_field(bytes, at),
     }
-    if bytes.len() - 4 < at {
-        return cut_field(bytes, at);
-    }
-    let high = bytes[at] as u32 * 256 + bytes[at + 1] as u32;
-    let low = bytes[at + 2] as u32 * 256 + bytes[at + 3] as u32;
-    high * 65536 + low
 }
 
 // A multiple of `size` from `size` to `most`: whole pieces, at least one.
@@ -63,45 +54,57 @@ pub fn length_fits(len: usize, size: usize, most: usize) -> bool
     if size == 0 {
         return len == 0;
     }
-    if len % size != 0 {
-        return false;
-    }
-    size <= len && len <= most
+    len % size == 0 && (size..=most).contains(&len)
 }
 
 // The bytes that start at `at`, as many as `len` or as there are.
 pub fn part(bytes: &[u8], at: usize, len: usize) -> &[u8]
     ensures { result.now ≡ field at len bytes.now }
 {
-    if bytes.len() <= at {
-        return &bytes[..0];
-    }
-    if bytes.len() - at <= len {
-        return &bytes[at..];
-    }
-    &bytes[at..at + len]
+    let rest = bytes.get(at..).unwrap_or(&[]);
+    rest.get(..len).unwrap_or(rest)
 }
 
 // Of pieces of `size` bytes, piece k: as much of it as there is.
 pub fn piece(bytes: &[u8], size: usize, k: usize) -> &[u8]
     ensures { result.now ≡ field (size * k) size bytes.now }
 {
-    if size == 0 {
-        return &bytes[..0];
+    match size.checked_mul(k) {
+        Some(at) => part(bytes, at, size),
+        None => &[],
     }
-    if bytes.len() / size < k {
-        return &bytes[..0];
-    }
-    part(bytes, size * k, size)
 }
 
-// The part whose length is byte k and that begins at `at`.
-pub fn term_part(block: &[u8], k: usize, at: usize) -> &[u8]
-    ensures { result.now ≡ field at (byte k block.now) block.now }
-{
-    if block.len() <= k {
-        return &block[..0];
+// Where a term stands in a block or a step: byte `length` says how long it is, its field of 64 bytes begins at `at`.
+#[derive(Clone, Copy)]
+pub struct TermField {
+    pub length: usize,
+    pub at: usize,
+}
+
+impl TermField {
+    // How long the term is. A byte that is missing counts as 00.
+    fn len(self, block: &[u8]) -> usize
+        ensures { result ≡ byte self.length block.now }
+    {
+        match block.get(self.length) {
+            Some(len) => *len as usize,
+            None => 0,
+        }
     }
-    let len = block[k] as usize;
-    part(block, at, len)
+
+    // The term's bytes.
+    pub fn bytes(self, block: &[u8]) -> &[u8]
+        ensures { result.now ≡ field self.at (byte self.length block.now) block.now }
+    {
+        part(block, self.at, self.len(block))
+    }
+
+    // What is behind the term in its field is filler. A length over 64 leaves none.
+    pub fn rest_is_filler(self, block: &[u8]) -> bool
+        ensures { result ≡ past_term self.length self.at block.now }
+    {
+        let field = part(block, self.at, 64);
+        filler(part(field, self.len(block), 64))
+    }
 }

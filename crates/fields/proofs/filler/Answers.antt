@@ -1,18 +1,8 @@
-use native.Mathlib.Omega.{arith}
-use mathlib.Core.Path.{refl}
-use Rattle.model.specs.Bytes.{zeros}
-use Rattle.fields.proofs.Zeros.{filler_more, filler_end}
+use Rattle.std.proofs.Common.{rules, ◌≡◌, ◌∙◌, ap, bit_or, fold, eqb}
+use Rattle.fields.proofs.Zeros.{or_all}
 use Rattle.fields.proofs.filler.Goals as goal
-
-pub loop-i-init : goal.loop-i-init
-loop-i-init c = (omega arith, refl)
-
-pub loop-i-preserved : goal.loop-i-preserved
-loop-i-preserved c =
-    let l = c.loop-i in
-    (omega arith, filler_more c.args.part.now l.i l.any (zeros c.args.part.now) (omega arith) l.invariant.1)
 
 pub returns : goal.returns
 returns c =
-    let l = c.loop-i in
-    filler_end c.args.part.now l.i l.any (zeros c.args.part.now) (omega arith) l.invariant.1
+    let put : c.fold.result ≡ fold (λ a b. bit_or a b) 0 c.args.part.now = search rules in
+    ap (λ a. eqb a 0) put ∙ or_all c.args.part.now 0

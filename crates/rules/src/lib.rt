@@ -8,7 +8,13 @@ ghost use Rattle.model.specs.Terms.{project_code};
 ghost use Rattle.model.specs.Derivations.{left, right, transitive, conjunction, disjunction, projection, meets};
 ghost use Rattle.words.specs.FourWords.{side_of};
 
+use fields::TermField;
 use words::Side;
+
+// Where a step's p and its q stand.
+pub const LEFT: TermField = TermField { length: 4, at: 8 };
+
+pub const RIGHT: TermField = TermField { length: 5, at: 72 };
 
 // The two are the same, byte for byte.
 fn same(a: &[u8], b: &[u8]) -> bool
@@ -41,13 +47,13 @@ fn code_then_two(s: &[u8], code: u8, a: &[u8], b: &[u8]) -> bool
 pub fn left(step: &[u8]) -> &[u8]
     ensures { result.now ≡ left step.now }
 {
-    fields::term_part(step, 4, 8)
+    LEFT.bytes(step)
 }
 
 pub fn right(step: &[u8]) -> &[u8]
     ensures { result.now ≡ right step.now }
 {
-    fields::term_part(step, 5, 72)
+    RIGHT.bytes(step)
 }
 
 // Rule 2: the step's terms are p and q, the grant's.

@@ -1,5 +1,6 @@
 -- A question on bytes: which refusal it gets, and the answer where nothing is refused. Assumes nothing.
 use mathlib.Core.Path.{◌≡◌, refl}
+use Rattle.std.specs.Prelude.{Option, Some, None, Ok}
 use mathlib.Core.Bool.{true, false}
 use mathlib.Core.List.{List}
 use Prim.Native.Nat.{ℕ, ◌+◌}
@@ -20,11 +21,9 @@ use Rattle.counting.proofs.Accepted.{names_few}
 use Rattle.soundness.specs.Keeping.{sound_in}
 use Rattle.soundness.proofs.Accepted.{sound-counted}
 use Rattle.questions.specs.declared.Relation.{Relation}
-use Rattle.questions.specs.declared.Answer.{Answer as Answered}
-use Rattle.questions.specs.declared.Verdict.{Verdict}
-use Rattle.questions.specs.declared.Verdict.TheVariants.{Holds, Refuted}
+use Rattle.questions.specs.declared.Refuter.{Refuter}
 use Rattle.questions.specs.Answers.{answer_of, relation_of}
-use Rattle.questions.specs.Searching.{verdict_of, verdict_answer, judge_of}
+use Rattle.questions.specs.Searching.{verdict_of, judge_of}
 use Rattle.questions.proofs.Refuting.{judged_under}
 
 -- what is judged on bytes that are accepted is what the question answers
@@ -35,10 +34,10 @@ judged_asked relation ledger p q label day n grants l tp tq L of a b c =
     rw (job_is n (names_few ledger n grants l of), term_in_lem n p tp a, term_in_lem n q tq b)
     (judged_under relation n l (under n L day) tp tq _ of.names (sound-counted ledger label day n grants (counted_in ledger n grants label day) l L of c refl))
 
--- a verdict's answer is what the verdict stands for
-pub verdict_answers : (v : Verdict) (r : Answered) → r ≡ verdict_answer v → answer_of r ≡ answer_to (verdict_of v)
-verdict_answers Holds r e = rw e
-verdict_answers (Refuted s c) r e = rw e
+-- the answer is what the first refuter, or that there is none, stands for
+pub verdict_answers : (v : Option Refuter) → answer_of (Ok v) ≡ answer_to (verdict_of v)
+verdict_answers None = refl
+verdict_answers (Some r) = refl
 
 -- ---- a question whose day is refused, or its ledger, p, q or label
 pub ask_day : (answer : Ledger → Under → Term → Term → Answer) (ledger p q label : List ℕ) (day : ℕ) → real_date day ≡ false → Refused 86 ≡ ask answer ledger p q label day

@@ -1,5 +1,8 @@
 -- Rows of the coalitions that refute if they are sound, and what is judged where the bytes are accepted. Assumes nothing.
-use mathlib.Core.Path.{◌≡◌, refl, ap, ◌∙◌}
+use mathlib.Core.Path.{◌≡◌, refl, sym, ap, ◌∙◌}
+use native.Mathlib.Omega.{arith}
+use Rattle.std.specs.Prelude.{Option, Some, None}
+use Rattle.std.specs.Option.{is_some}
 use mathlib.Core.Bool.{Bool, true, false, not, ◌&&◌}
 use mathlib.Core.Logic.{◌↔◌}
 use Prim.Native.Nat.{ℕ, ◌^◌, ◌<◌}
@@ -10,19 +13,21 @@ use Rattle.model.specs.Coalitions.{Marks, mark}
 use Rattle.model.specs.Terms.{Term, held}
 use Rattle.model.specs.Grants.{Under, acts_statically}
 use Rattle.model.specs.Ledgers.{Ledger}
-use Rattle.model.specs.Questions.{refutes, holds, judge, answer_to, across, sound_under, acts_for_under, flows_to_under}
+use Rattle.model.specs.Questions.{refutes, holds, refuted, judge, answer_to, across, sound_under, acts_for_under, flows_to_under}
+use Rattle.model.proofs.Truth.{false_of}
 use Rattle.model.proofs.Judge.{judge_yes, judge_cong}
 use Rattle.model.proofs.Sound.{static_says}
 use Rattle.words.specs.declared.Row.{Row}
 use Rattle.words.specs.declared.Rows.{Rows}
-use Rattle.words.specs.FourWords.{RowAt, RowsAt, each_word, lacks, lacks_word}
+use Rattle.words.specs.FourWords.{side_of, RowAt, RowsAt, each_word, lacks, lacks_word}
 use Rattle.words.specs.Evaluation.{job_of}
 use Rattle.words.proofs.FourWords.{row_both, row_lacks, rows_of}
 use Rattle.words.proofs.Names.{few_coalitions}
 use Rattle.questions.specs.declared.Relation.{Relation}
 use Rattle.questions.specs.declared.Relation.TheVariants.{ActsFor, FlowsTo}
 use Rattle.questions.specs.Answers.{relation_of}
-use Rattle.questions.specs.Searching.{from_of, to_of, judge_of, opposed_of, refuters_of}
+use Rattle.questions.specs.declared.Refuter.{Refuter}
+use Rattle.questions.specs.Searching.{verdict_of, from_of, to_of, judge_of, opposed_of, refuters_of}
 
 -- the rows of those that refute if they are sound, from the rows of p and q
 module _ (n : ℕ) (p q : Term) (g : ℕ) (mask : Row) (from to : Rows) (m : RowAt (λ c. ltb c (2 ^ n)) g mask) (a : RowsAt (held p) g from) (b : RowsAt (held q) g to) where
@@ -64,3 +69,13 @@ judged_static n S p q all = (
   λ e. (static_says n p q).1 (λ s c b. (judge_yes n S (held p) (held q)).0 e s c b (all s c)),
   λ e. (judge_yes n S (held p) (held q)).1 (λ s c b _. (static_says n p q).0 e s c b),
 )
+
+-- where none refutes it does, and otherwise not
+pub static_none : (n : ℕ) (p q : Term) (found : Option Refuter) (b : Bool) → is_some found ≡ not b → verdict_of found ≡ judge n (λ s c. true) (held p) (held q) → b ≡ acts_statically n p q
+static_none n p q None true e h = sym ((judged_static n (λ s c. true) p q (λ s c. refl)).0 (sym h))
+static_none n p q None false e h = cc
+static_none n p q (Some r) true e h = cc
+static_none n p q (Some r) false e h = sym (false_of _ (λ e. not_both (side_of r.side) r.coalition (h ∙ (judged_static n (λ s c. true) p q (λ s c. refl)).1 e)))
+  where
+    not_both : (s : Side) (c : ℕ) → refuted s c ≡ holds → ⊥
+    not_both s c e = absurd (let z : ◌≡◌ {A = ℕ} 0 1 = cc in omega arith)

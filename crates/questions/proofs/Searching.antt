@@ -1,5 +1,6 @@
 -- The first refuter, one row after another. Assumes nothing.
 use mathlib.Core.Path.{◌≡◌, refl, sym, ap, ap₂, ◌∙◌}
+use Rattle.std.specs.Prelude.{Option, Some, None}
 use mathlib.Core.Bool.{Bool, true, false, ◌&&◌}
 use Prim.Native.Nat.{ℕ, ◌+◌, ◌-◌, ◌*◌, ◌%◌, ◌^◌, ◌≤◌, ◌<◌}
 use native.Mathlib.Nat.{sub-zero, zero-add}
@@ -21,8 +22,7 @@ use Rattle.words.proofs.Packing.{packed_zero}
 use Rattle.words.proofs.FourWords.{row_none, row_empty, empty_row_lem, empty_words, rows_of, rows_cong}
 use Rattle.words.proofs.Searches.{lowest_kept, lowest_past, lowest_found, lowest-zero, lowest_all}
 use Rattle.questions.specs.declared.Relation.{Relation}
-use Rattle.questions.specs.declared.Verdict.{Verdict}
-use Rattle.questions.specs.declared.Verdict.TheVariants.{Holds, Refuted}
+use Rattle.questions.specs.declared.Refuter.{Refuter}
 use Rattle.questions.specs.Searching.{verdict_of, from_of, to_of, judge_of, opposed_of, refuters_of, lowest_bit, first_of, raised, lowest_in, placed, see_only, still_of, still_rows, later_of, further_of, found_to, Deciding}
 use Rattle.questions.proofs.Refuting.{refuters_are}
 
@@ -110,6 +110,9 @@ module _ (x : Row) (r : ℕ) where
   pub third_word : x.a ≡ 0 → x.b ≡ 0 → lowest_bit x.c ≡ at r → lowest_in x ≡ at (128 + r)
   third_word y z e = rw (no_bit x.a y, no_bit x.b z, e)
 
+  pub no_word : x.a ≡ 0 → x.b ≡ 0 → x.c ≡ 0 → x.d ≡ 0 → lowest_in x ≡ nowhere
+  no_word w y z v = rw (no_bit x.a w, no_bit x.b y, no_bit x.c z, no_bit x.d v)
+
   pub fourth_word : x.a ≡ 0 → x.b ≡ 0 → x.c ≡ 0 → lowest_bit x.d ≡ at r → lowest_in x ≡ at (192 + r)
   fourth_word w y z e = rw (no_bit x.a w, no_bit x.b y, no_bit x.c z, e)
 
@@ -118,7 +121,7 @@ empty_nowhere x e =
     let z = empty_words x e in
     rw (no_bit x.a (z 0 (omega arith)), no_bit x.b (z 1 (omega arith)), no_bit x.c (z 2 (omega arith)), no_bit x.d (z 3 (omega arith)))
 
-module _ (found : Verdict) (g : ℕ) (x y : Row) where
+module _ (found : Option Refuter) (g : ℕ) (x y : Row) where
   pub further_see : (r : ℕ) → placed g (lowest_in x) ≡ at r → refuted confidentiality r ≡ further_of found g (lowest_in x) (lowest_in y)
   further_see r e = rw e
 
@@ -129,14 +132,14 @@ module _ (found : Verdict) (g : ℕ) (x y : Row) where
   further_none z v = rw (empty_nowhere x z, empty_nowhere y v)
 
 -- the rows of those that can still decide
-pub still_rows_lem : (found : Verdict) (f : Marks) (g : ℕ) (both r : Rows) → RowsAt f g both → r ≡ still_rows found both → RowsAt (still_of found f) g r
-still_rows_lem Holds f g both r h e = rw e h
-still_rows_lem (Refuted s c) f g both r h e = rw e (rows_of g (see_only f) both.see (same_row 0) (h.row confidentiality) (row_none g))
+pub still_rows_lem : (found : Option Refuter) (f : Marks) (g : ℕ) (both r : Rows) → RowsAt f g both → r ≡ still_rows found both → RowsAt (still_of found f) g r
+still_rows_lem None f g both r h e = rw e h
+still_rows_lem (Some x) f g both r h e = rw e (rows_of g (see_only f) both.see (same_row 0) (h.row confidentiality) (row_none g))
 
 -- on the see side all can
-pub see_still : (R : Marks) (found : Verdict) (g : ℕ) (x : Row) → RowAt (still_of found R confidentiality) g x → RowAt (R confidentiality) g x
-see_still R Holds g x e = e
-see_still R (Refuted s c) g x e = e
+pub see_still : (R : Marks) (found : Option Refuter) (g : ℕ) (x : Row) → RowAt (still_of found R confidentiality) g x → RowAt (R confidentiality) g x
+see_still R None g x e = e
+see_still R (Some r) g x e = e
 
 -- ---- the verdict before a row, and after it
 
@@ -153,8 +156,8 @@ module _ (R : Marks) (g : ℕ) where
   see_clear = row_clear (R confidentiality) g
 
   -- what was found before the row, and the first in it, are the first
-  pub further_is : (left : Rows) (found : Verdict) → g < 16 → Deciding R found g left → further_of found g (lowest_in left.see) (lowest_in left.change) ≡ found_to R (256 * (g + 1))
-  further_is left Holds below d =
+  pub further_is : (left : Rows) (found : Option Refuter) → g < 16 → Deciding R found g left → further_of found g (lowest_in left.see) (lowest_in left.change) ≡ found_to R (256 * (g + 1))
+  further_is left None below d =
       let none = none_yet (lowest (R confidentiality) (256 * g)) (lowest (R integrity) (256 * g)) d.clear d.so_far in
       rw (placed-lowest (R confidentiality) g left.see below d.clear (d.rows.row confidentiality), placed-lowest (R integrity) g left.change below none (d.rows.row integrity))
       (first (lowest (R confidentiality) (256 * (g + 1))) (lowest (R integrity) (256 * (g + 1))))
@@ -168,9 +171,9 @@ module _ (R : Marks) (g : ℕ) where
       first (at c) b = refl
       first nowhere (at c) = refl
       first nowhere nowhere = refl
-  further_is left (Refuted s c) below d =
-      let kept = found_yet (lowest (R confidentiality) (256 * g)) (lowest (R integrity) (256 * g)) (side_of s) c d.clear d.so_far in
-      let later = lowest_kept (R integrity) (256 * g) (256 * (g + 1)) c kept.0 (omega arith) in
+  further_is left (Some r) below d =
+      let kept = found_yet (lowest (R confidentiality) (256 * g)) (lowest (R integrity) (256 * g)) (side_of r.side) r.coalition d.clear d.so_far in
+      let later = lowest_kept (R integrity) (256 * g) (256 * (g + 1)) r.coalition kept.0 (omega arith) in
       let empty : lowest_in left.change ≡ nowhere = empty_nowhere left.change (empty_row_lem (λ c. false) g left.change (d.rows.row integrity) (λ c _ _. refl)) in
       rw (placed-lowest (R confidentiality) g left.see below d.clear (d.rows.row confidentiality), empty, kept.1, later)
       (first (lowest (R confidentiality) (256 * (g + 1))))
@@ -180,7 +183,7 @@ module _ (R : Marks) (g : ℕ) where
       found_yet nowhere nowhere s c e h = (cc, cc)
       found_yet nowhere (at d) s c e h = (cc, cc)
 
-      first : (a : Lowest) → later_of a nowhere (refuted integrity c) ≡ ground a (at c)
+      first : (a : Lowest) → later_of a nowhere (refuted integrity r.coalition) ≡ ground a (at r.coalition)
       first (at d) = refl
       first nowhere = refl
 
@@ -209,10 +212,15 @@ module _ (relation : Relation) (n : ℕ) (S : Marks) (p q : Term) where
       rw (← k) (ap₂ ground (lowest_all (job_of n) (R confidentiality) (omega arith)) (lowest_all (job_of n) (R integrity) (omega arith)))
 
   -- the rows of those that can still decide and are sound
-  pub deciding_rows : (found : Verdict) (g : ℕ) (left : Rows) → g < 16 → RowsAt (λ s c. still_of found (opposed_of relation n p q) s c && S s c) g left
+  pub deciding_rows : (found : Option Refuter) (g : ℕ) (left : Rows) → g < 16 → RowsAt (λ s c. still_of found (opposed_of relation n p q) s c && S s c) g left
       → RowsAt (still_of found (refuters_of relation n S p q)) g left
-  deciding_rows Holds g left below h = rows_cong g _ _ left (λ s c _ l. refuters_are relation n S p q s c (omega arith)) h
-  deciding_rows (Refuted s c) g left below h = rows_cong g _ _ left (elim [
+  deciding_rows None g left below h = rows_cong g _ _ left (λ s c _ l. refuters_are relation n S p q s c (omega arith)) h
+  deciding_rows (Some r) g left below h = rows_cong g _ _ left (elim [
     | confidentiality ↦ λ c _ l. refuters_are relation n S p q confidentiality c (omega arith)
     | integrity ↦ λ c _ l. refl
   ]) h
+
+  -- the row once its sound ones are left
+  pub deciding_at : (found : Option Refuter) (g : ℕ) (left : Rows) → g < 16 → lowest (refuters_of relation n S p q confidentiality) (256 * g) ≡ nowhere → verdict_of found ≡ found_to (refuters_of relation n S p q) (256 * g)
+      → RowsAt (λ s c. still_of found (opposed_of relation n p q) s c && S s c) g left → Deciding (refuters_of relation n S p q) found g left
+  deciding_at found g left below clear so_far rows = record { clear = clear; so_far = so_far; rows = deciding_rows found g left below rows }

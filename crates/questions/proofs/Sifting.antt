@@ -17,7 +17,7 @@ use Rattle.counting.proofs.Knowing.{known_judged}
 use Rattle.soundness.specs.Keeping.{breaks}
 use Rattle.soundness.proofs.Steps.{kept_rows, kept_all, keep_first, keep_step}
 use Rattle.questions.specs.declared.Sifted.{Sifted}
-use Rattle.questions.specs.Searching.{SiftedTo}
+use Rattle.questions.specs.Sieving.{SiftedTo}
 
 -- ---- one grant
 

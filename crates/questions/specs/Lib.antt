@@ -1,3 +1,4 @@
 -- What the promises of this crate cite.
 pub mod Answers
 pub mod Searching
+pub mod Sieving

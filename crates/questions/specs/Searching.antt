@@ -1,6 +1,6 @@
 -- The search for the first coalition that refutes, row by row (document 01: "the see side first, then the lowest number that refutes").
 -- Assumes nothing: these are definitions.
-use Rattle.std.specs.Prelude.{◌≡◌, Bool, false, not, ◌&&◌, ℕ, ◌+◌, ◌*◌, ◌%◌, ◌^◌, ltb}
+use Rattle.std.specs.Prelude.{◌≡◌, false, not, ◌&&◌, ℕ, ◌+◌, ◌*◌, ◌%◌, ◌^◌, ltb, Option, Some, None}
 use Rattle.model.specs.Questions as model
 use Rattle.model.specs.Sides.{confidentiality, integrity}
 use Rattle.model.specs.Coalitions.{member, Marks, Lowest, nowhere, at, lowest, mark}
@@ -10,24 +10,19 @@ use Rattle.words.specs.declared.Row.{Row}
 use Rattle.words.specs.declared.Rows.{Rows}
 use Rattle.words.specs.FourWords.{side_of, RowsAt, same_row}
 use Rattle.words.specs.Evaluation.{job_of}
-use Rattle.counting.specs.Counted.{KnownOf}
-use Rattle.questions.specs.declared.Answer.{Answer}
-use Rattle.questions.specs.declared.Answer.TheVariants.{Yes, No}
 use Rattle.questions.specs.declared.Relation.{Relation}
 use Rattle.questions.specs.declared.Relation.TheVariants.{ActsFor, FlowsTo}
-use Rattle.questions.specs.declared.Sifted.{Sifted}
-use Rattle.questions.specs.declared.Verdict.{Verdict}
-use Rattle.questions.specs.declared.Verdict.TheVariants.{Holds, Refuted}
+use Rattle.questions.specs.declared.Refuter.{Refuter}
 
--- what each case of a verdict stands for
-abbrev pub verdict_of : Verdict → model.Verdict
-verdict_of Holds = model.holds
-verdict_of (Refuted s c) = model.refuted (side_of s) c
+-- what the first refuter, or that there is none, stands for
+abbrev pub verdict_of : Option Refuter → model.Verdict
+verdict_of None = model.holds
+verdict_of (Some r) = model.refuted (side_of r.side) r.coalition
 
--- and as an answer
-abbrev pub verdict_answer : Verdict → Answer
-verdict_answer Holds = Yes
-verdict_answer (Refuted s c) = No s c
+-- what a search for the lowest coalition gives
+abbrev pub found_at : Option ℕ → Lowest
+found_at None = nowhere
+found_at (Some j) = at j
 
 -- a coalition that refutes is one of the first and none of the second
 abbrev pub from_of : Relation → Term → Term → Marks
@@ -78,14 +73,14 @@ see_only f confidentiality = f confidentiality
 see_only f integrity = λ c. false
 
 -- those that can still decide
-abbrev pub still_of : Verdict → Marks → Marks
-still_of Holds f = f
-still_of (Refuted s c) f = see_only f
+abbrev pub still_of : Option Refuter → Marks → Marks
+still_of None f = f
+still_of (Some r) f = see_only f
 
 -- and of two rows those that can
-abbrev pub still_rows : Verdict → Rows → Rows
-still_rows Holds both = both
-still_rows (Refuted s c) both = record { see = both.see; change = same_row 0 }
+abbrev pub still_rows : Option Refuter → Rows → Rows
+still_rows None both = both
+still_rows (Some r) both = record { see = both.see; change = same_row 0 }
 
 -- what was found, or the first in row g, these being its lowest refuters: one on the see side comes before what was found
 abbrev pub later_of : Lowest → Lowest → model.Verdict → model.Verdict
@@ -93,7 +88,7 @@ later_of (at c) change found = model.refuted confidentiality c
 later_of nowhere (at c) found = model.refuted integrity c
 later_of nowhere nowhere found = found
 
-abbrev pub further_of : Verdict → ℕ → Lowest → Lowest → model.Verdict
+abbrev pub further_of : Option Refuter → ℕ → Lowest → Lowest → model.Verdict
 further_of found g see change = later_of (placed g see) (placed g change) (verdict_of found)
 
 -- the first of the refuters R below k
@@ -101,12 +96,7 @@ abbrev pub found_to : Marks → ℕ → model.Verdict
 found_to R k = ground (lowest (R confidentiality) k) (lowest (R integrity) k)
 
 -- Before row g the first of the refuters R is the verdict, and none is on the see side; of row g, these are the refuters that can still decide.
-pub record Deciding (R : Marks) (found : Verdict) (g : ℕ) (left : Rows) : Type 0 where
+pub record Deciding (R : Marks) (found : Option Refuter) (g : ℕ) (left : Rows) : Type 0 where
   pub clear : lowest (R confidentiality) (256 * g) ≡ nowhere
   pub so_far : verdict_of found ≡ found_to R (256 * g)
   pub rows : RowsAt (still_of found R) g left
-
--- What is left of row g is a row of f, and what is known of the grants is so, `counts` being what counts.
-pub record SiftedTo (counts : ℕ → Bool) (f : Marks) (g : ℕ) (sifted : Sifted) : Type 0 where
-  pub rows : RowsAt f g sifted.left
-  pub so : KnownOf counts sifted.known

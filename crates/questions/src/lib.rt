@@ -1,50 +1,49 @@
 // Acts-for and flows-to questions (document 01), on a day (document 02, K2): the coalitions that refute, the first of them, and the answer.
 #![tactic(auto)]
 
-ghost use Rattle.std.specs.Prelude.{◌≡◌, false, ◌&&◌, ◌≤◌, ◌<◌};
-ghost use Rattle.model.specs.Coalitions.{Marks, implies, at};
+ghost use Rattle.std.specs.Prelude.{◌≡◌, Some, ◌&&◌, ◌≤◌, ◌<◌};
+ghost use Rattle.model.specs.Coalitions.{Marks, implies};
 ghost use Rattle.model.specs.Grants.{marks_of, keeps, acts_statically};
 ghost use Rattle.model.specs.Questions.{ask, acts_for, flows_to};
 ghost use Rattle.words.specs.AnyBytes.{term_in};
-ghost use Rattle.words.specs.FourWords.{RowsAt, empty_row};
+ghost use Rattle.words.specs.FourWords.{RowsAt};
 ghost use Rattle.words.specs.Evaluation.{job_of};
-ghost use Rattle.counting.specs.Counted.{grant_in, counts_at, counted_in};
-ghost use Rattle.soundness.specs.Keeping.{sound_in};
+ghost use Rattle.counting.specs.Counted.{grant_in};
 ghost use Rattle.questions.specs.Answers.{answer_of, relation_of};
-ghost use Rattle.questions.specs.Searching.{opposed_of, judge_of, verdict_of, verdict_answer, lowest_in, placed, still_rows, further_of, SiftedTo};
+ghost use Rattle.questions.specs.Searching.{found_at, opposed_of, judge_of, verdict_of, lowest_in, placed, still_rows, further_of};
+ghost use Rattle.questions.specs.Sieving.{EverySound, SoundAsked, SiftedTo, counts_asked, sound_asked};
 
 use counting::Known;
-use ledgers::LedgerReading;
-use terms::TermReading;
+use refusals::Refusal;
 use words::{Row, Rows, Side};
 
-// What a search for a refuter gives.
-#[derive(Clone, Copy)]
-pub enum Verdict {
-    Holds,
-    // The side and the coalition that refutes.
-    Refuted(Side, u16),
-}
-
-// The answer to a question.
-#[derive(Clone, Copy)]
-pub enum Answer {
-    Yes,
-    // The side and the coalition that refutes.
-    No(Side, u16),
-    // The number of the refusal.
-    Refused(u8),
+// A coalition that refutes, and the side on which it does.
+#[derive(Clone, Copy, Debug, PartialEq, Eq)]
+pub struct Refuter {
+    pub side: Side,
+    pub coalition: u16,
 }
 
 // Which question: on the see side flows-to asks the other way round.
-#[derive(Clone, Copy)]
+#[derive(Clone, Copy, Debug, PartialEq, Eq)]
 pub enum Relation {
     ActsFor,
     FlowsTo,
 }
 
+// What leaves of some coalitions those that are sound: the grants of a ledger, or the numbers that a live ledger stores.
+pub trait Sieve {
+    // These are the sound ones.
+    ghost keeps: { Self → Marks → Type 0 };
+
+    // Those of row g that are sound, of some of its coalitions.
+    fn sift(&mut self, g: u64, of: Rows) -> Rows
+        requires { g < 16 }
+        ensures { (S f : Marks) → keeps self.old S → RowsAt f g of → RowsAt (λ s c. f s c && S s c) g result × keeps self.new S };
+}
+
 // Row g of the coalitions of n names that refute, were they sound: those that hold p and not q, and for flows-to, on the see side, q and not p.
-pub fn opposed(relation: Relation, n: u64, p: &[u8], q: &[u8], g: u64) -> Rows
+fn opposed(relation: Relation, n: u64, p: &[u8], q: &[u8], g: u64) -> Rows
     ensures { RowsAt (opposed_of relation n (term_in p.now) (term_in q.now)) g result }
 {
     let mask = words::low_row(n, g);
@@ -56,71 +55,105 @@ pub fn opposed(relation: Relation, n: u64, p: &[u8], q: &[u8], g: u64) -> Rows
     match relation {
         Relation::ActsFor => Rows {
             see: words::both(mask, words::without(from.see, to.see)),
-            change: change,
+            change,
         },
         Relation::FlowsTo => Rows {
             see: words::both(mask, words::without(to.see, from.see)),
-            change: change,
+            change,
         },
     }
 }
 
-// The number of the lowest coalition of a row, counted from the row's first, where there is one.
-fn lowest_in(row: Row) -> u64
-    ensures upper_bound { result ≤ 256 }
-    ensures row_value { empty_row row ≡ false → lowest_in row ≡ at result }
+// The number of the lowest coalition of a row, counted from the row's first.
+fn lowest_in(row: Row) -> Option<u64>
+    ensures found { found_at result ≡ lowest_in row }
+    ensures small { (j : _) → result ≡ Some j → j ≤ 256 }
 {
     if row.a != 0 {
-        return words::lowest(row.a);
+        Some(words::lowest(row.a))
+    } else if row.b != 0 {
+        Some(64 + words::lowest(row.b))
+    } else if row.c != 0 {
+        Some(128 + words::lowest(row.c))
+    } else if row.d != 0 {
+        Some(192 + words::lowest(row.d))
+    } else {
+        None
     }
-    if row.b != 0 {
-        return 64 + words::lowest(row.b);
-    }
-    if row.c != 0 {
-        return 128 + words::lowest(row.c);
-    }
-    192 + words::lowest(row.d)
 }
 
-// The number of the lowest coalition of row g, where there is one; there are 16 rows at most.
-fn lowest_of(g: u64, row: Row) -> u16
-    ensures { empty_row row ≡ false → placed g (lowest_in row) ≡ at result }
+// The lowest coalition of row g; there are 16 rows at most.
+fn lowest_of(g: u64, row: Row) -> Option<u16>
+    ensures { found_at result ≡ placed g (lowest_in row) }
 {
-    (256 * (g % 16) + lowest_in(row)) as u16
+    let j = lowest_in(row)?;
+    Some((256 * (g % 16) + j) as u16)
 }
 
 // Those of two rows that can still decide: once there is a ground on the change side, those of the see side alone.
-pub fn still(found: Verdict, both: Rows) -> Rows
+fn still(found: Option<Refuter>, both: Rows) -> Rows
     ensures { result ≡ still_rows found both }
 {
-    let see = both.see;
-    let Verdict::Holds = found else {
-        return Rows {
-            see,
-            change: Row {
-                a: 0,
-                b: 0,
-                c: 0,
-                d: 0,
-            },
-        };
-    };
-    both
+    match found {
+        None => both,
+        Some(_) => Rows {
+            see: both.see,
+            change: words::same(0),
+        },
+    }
 }
 
 // The first refuter once row g is searched too, `left` being the refuters in it that can still decide.
-pub fn further(found: Verdict, g: u64, left: Rows) -> Verdict
+fn further(found: Option<Refuter>, g: u64, left: Rows) -> Option<Refuter>
     ensures { verdict_of result ≡ further_of found g (lowest_in left.see) (lowest_in left.change) }
 {
-    let unseen = words::empty(left.see);
-    if !unseen {
-        return Verdict::Refuted(Side::See, lowest_of(g, left.see));
+    if let Some(coalition) = lowest_of(g, left.see) {
+        return Some(Refuter {
+            side: Side::See,
+            coalition,
+        });
     }
-    let unchanged = words::empty(left.change);
-    if !unchanged {
-        return Verdict::Refuted(Side::Change, lowest_of(g, left.change));
+    if let Some(coalition) = lowest_of(g, left.change) {
+        return Some(Refuter {
+            side: Side::Change,
+            coalition,
+        });
     }
     found
+}
+
+// The first refuter: on the see side, else on the change side, whose first one is kept while the see side is searched to its end.
+pub fn first_refuter<S: Sieve>(
+    relation: Relation,
+    n: u64,
+    p: &[u8],
+    q: &[u8],
+    sieve: &mut S,
+) -> Option<Refuter>
+    ensures { (T : Marks) → S.keeps sieve.old T → verdict_of result ≡ judge_of relation (job_of n) T (term_in p.now) (term_in q.now) }
+{
+    let mut found = None;
+    for g in 0..words::row_count(n) {
+        let left = still(found, opposed(relation, n, p, q, g));
+        let against = sieve.sift(g, left);
+        found = further(found, g, against);
+        if !words::empty(against.see) {
+            return found;
+        }
+    }
+    found
+}
+
+// Every coalition is sound: no grant is kept.
+#[derive(Clone, Copy)]
+struct NoGrants;
+
+impl Sieve for NoGrants {
+    ghost keeps = { λ _ S. EverySound S };
+
+    fn sift(&mut self, _g: u64, of: Rows) -> Rows {
+        of
+    }
 }
 
 // What is left of two rows of refuters, and what is known of the grants.
@@ -130,140 +163,138 @@ struct Sifted {
     known: Known,
 }
 
-// Takes away those that break grant k, if it counts. It is judged only where one of them breaks it.
-fn sift_grant(ledger: &[u8], n: u64, k: usize, label: &[u8], day: u32, g: u64, of: Sifted) -> Sifted
-    requires { k < 64 }
-    ensures { (f : Marks) → SiftedTo (counts_at ledger.now n label.now day) f g of → SiftedTo (counts_at ledger.now n label.now day) (λ s c. f s c && implies (counts_at ledger.now n label.now day k) (keeps (marks_of (grant_in ledger.now k)) s c)) g result }
-{
-    let left = of.left;
-    let before = of.known;
-    let may = counting::may_count(before, k);
-    if !may {
-        return of;
-    }
-    let gone = soundness::broken(ledger, k, g, left);
-    if words::none(gone) {
-        return of;
-    }
-    let known = counting::judge(ledger, n, k, label, day, before);
-    let counts = counting::may_count(known, k);
-    if !counts {
-        return Sifted { left, known };
-    }
-    Sifted {
-        left: words::rest(left, gone),
-        known,
-    }
-}
-
-// Takes away those that break a counting grant. It ends where none is left.
-fn sift(ledger: &[u8], n: u64, grants: usize, label: &[u8], day: u32, g: u64, of: Sifted) -> Sifted
-    requires { grants ≤ 64 }
-    ensures { (f : Marks) → SiftedTo (counts_at ledger.now n label.now day) f g of → SiftedTo (counts_at ledger.now n label.now day) (λ s c. f s c && sound_in ledger.now grants (counted_in ledger.now n grants label.now day) s c) g result }
-{
-    let mut sifted = of;
-    let mut k: usize = 0;
-    while k < grants {
-        let left = sifted.left;
-        if words::none(left) {
-            return sifted;
-        }
-        sifted = sift_grant(ledger, n, k, label, day, g, sifted);
-        k += 1;
-    }
-    sifted
-}
-
-// The first refuter: on the see side, else on the change side, whose first one is kept while the see side is searched to its end.
-fn judge(
-    relation: Relation,
-    ledger: &[u8],
-    n: u64,
+// A ledger of so many names and grants, under a label and on a day.
+#[derive(Clone, Copy)]
+struct Asked<'a> {
+    ledger: &'a [u8],
+    names: u64,
     grants: usize,
-    label: &[u8],
+    label: &'a [u8],
     day: u32,
-    p: &[u8],
-    q: &[u8],
-) -> Verdict
-    requires { grants ≤ 64 }
-    ensures { verdict_of result ≡ judge_of relation (job_of n) (sound_in ledger.now grants (counted_in ledger.now n grants label.now day)) (term_in p.now) (term_in q.now) }
-{
-    let rows = words::row_count(n);
-    let mut found = Verdict::Holds;
-    let mut known = counting::unknown();
-    let mut g: u64 = 0;
-    while g < rows {
-        let left = still(found, opposed(relation, n, p, q, g));
-        let sifted = sift(ledger, n, grants, label, day, g, Sifted { left, known });
-        let against = sifted.left;
-        known = sifted.known;
-        found = further(found, g, against);
-        let unseen = words::empty(against.see);
-        if !unseen {
-            return found;
+}
+
+impl Asked<'_> {
+    // Takes away those that break grant k, if it counts. It is judged only where one of them breaks it.
+    fn sift_grant(&self, k: usize, g: u64, of: Sifted) -> Sifted
+        ensures { k < 64 → (f : Marks) → SiftedTo (counts_asked self.now) f g of → SiftedTo (counts_asked self.now) (λ s c. f s c && implies (counts_asked self.now k) (keeps (marks_of (grant_in self.now.ledger.now k)) s c)) g result }
+    {
+        let left = of.left;
+        let before = of.known;
+        if !counting::may_count(before, k) {
+            return of;
         }
-        g += 1;
+        let gone = soundness::broken(self.ledger, k, g, left);
+        if words::none(gone) {
+            return of;
+        }
+        let known = counting::judge(self.ledger, self.names, k, self.label, self.day, before);
+        if !counting::may_count(known, k) {
+            return Sifted { left, known };
+        }
+        Sifted {
+            left: words::rest(left, gone),
+            known,
+        }
     }
-    found
+
+    // Takes away those that break a counting grant. It ends where none is left.
+    fn sift(&self, g: u64, of: Sifted) -> Sifted
+        ensures { self.now.grants ≤ 64 → (f : Marks) → SiftedTo (counts_asked self.now) f g of → SiftedTo (counts_asked self.now) (λ s c. f s c && sound_asked self.now s c) g result }
+    {
+        let mut sifted = of;
+        for k in 0..self.grants {
+            if words::none(sifted.left) {
+                return sifted;
+            }
+            sifted = self.sift_grant(k, g, sifted);
+        }
+        sifted
+    }
+}
+
+// The grants of a ledger, and what is known of them.
+#[derive(Clone, Copy)]
+struct Grants<'a> {
+    asked: Asked<'a>,
+    known: Known,
+}
+
+impl Sieve for Grants<'_> {
+    ghost keeps = { λ it S. SoundAsked it.asked it.known S };
+
+    fn sift(&mut self, g: u64, of: Rows) -> Rows {
+        let sifted = self.asked.sift(
+            g,
+            Sifted {
+                left: of,
+                known: self.known,
+            },
+        );
+        self.known = sifted.known;
+        sifted.left
+    }
 }
 
 // Statically p acts for q, in a job of n names: no grant is kept, and no byte of a ledger or a label read.
 pub fn acts_statically(n: u64, p: &[u8], q: &[u8]) -> bool
     ensures { result ≡ acts_statically (job_of n) (term_in p.now) (term_in q.now) }
 {
-    let verdict = judge(Relation::ActsFor, &p[..0], n, 0, &p[..0], 0, p, q);
-    match verdict {
-        Verdict::Holds => true,
-        Verdict::Refuted(_, _) => false,
-    }
+    first_refuter(Relation::ActsFor, n, p, q, &mut NoGrants).is_none()
 }
 
-// The verdict as an answer.
-pub fn answered(verdict: Verdict) -> Answer
-    ensures { result ≡ verdict_answer verdict }
-{
-    match verdict {
-        Verdict::Holds => Answer::Yes,
-        Verdict::Refuted(side, coalition) => Answer::No(side, coalition),
-    }
-}
-
-// A question on bytes and a day: 86 for the day, then the ledger's refusals, p's, q's and the label's.
-fn ask(relation: Relation, ledger: &[u8], p: &[u8], q: &[u8], label: &[u8], day: u32) -> Answer
+// A question on bytes and a day: 86 for the day, then the ledger's refusals, p's, q's and the label's. The answer is the first refuter, or none, which is yes.
+fn ask(
+    relation: Relation,
+    ledger: &[u8],
+    p: &[u8],
+    q: &[u8],
+    label: &[u8],
+    day: u32,
+) -> Result<Option<Refuter>, Refusal>
     ensures { answer_of result ≡ ask (relation_of relation) ledger.now p.now q.now label.now day }
 {
-    let real = dates::real_date(day);
-    if !real {
-        return Answer::Refused(86);
+    if !dates::real_date(day) {
+        return Err(Refusal::NotReal);
     }
-    let book = ledgers::read_ledger(ledger);
-    let LedgerReading::Accepted { names, grants } = book else {
-        return Answer::Refused(ledgers::ledger_refusal(book));
+    let sizes = ledgers::read_ledger(ledger)?;
+    let names = sizes.names;
+    terms::read_term(p, names).map_err(Refusal::P)?;
+    terms::read_term(q, names).map_err(Refusal::Q)?;
+    terms::read_term(label, names).map_err(Refusal::Label)?;
+    let mut grants = Grants {
+        asked: Asked {
+            ledger,
+            names,
+            grants: sizes.grants,
+            label,
+            day,
+        },
+        known: counting::unknown(),
     };
-    let first = terms::read_term(p, names);
-    let TermReading::Accepted = first else {
-        return Answer::Refused(20 + terms::term_refusal(first));
-    };
-    let second = terms::read_term(q, names);
-    let TermReading::Accepted = second else {
-        return Answer::Refused(30 + terms::term_refusal(second));
-    };
-    let third = terms::read_term(label, names);
-    let TermReading::Accepted = third else {
-        return Answer::Refused(40 + terms::term_refusal(third));
-    };
-    answered(judge(relation, ledger, names, grants, label, day, p, q))
+    Ok(first_refuter(relation, names, p, q, &mut grants))
 }
 
 // Does p act for q under the label, on the day?
-pub fn acts_for(ledger: &[u8], p: &[u8], q: &[u8], label: &[u8], day: u32) -> Answer
+pub fn acts_for(
+    ledger: &[u8],
+    p: &[u8],
+    q: &[u8],
+    label: &[u8],
+    day: u32,
+) -> Result<Option<Refuter>, Refusal>
     ensures { answer_of result ≡ acts_for ledger.now p.now q.now label.now day }
 {
     ask(Relation::ActsFor, ledger, p, q, label, day)
 }
 
 // Does p flow to q under the label, on the day?
-pub fn flows_to(ledger: &[u8], p: &[u8], q: &[u8], label: &[u8], day: u32) -> Answer
+pub fn flows_to(
+    ledger: &[u8],
+    p: &[u8],
+    q: &[u8],
+    label: &[u8],
+    day: u32,
+) -> Result<Option<Refuter>, Refusal>
     ensures { answer_of result ≡ flows_to ledger.now p.now q.now label.now day }
 {
     ask(Relation::FlowsTo, ledger, p, q, label, day)

@@ -12,11 +12,7 @@ fn copy_in(ledger: &mut [u8; 33280], at: usize, block: &[u8])
     requires { (at + 512 ≤ 33280) × (length block.now ≡ 512) }
     ensures { length ledger.old ≡ 33280 → ledger.new ≡ paste ledger.old at block.now 512 }
 {
-    let mut k: usize = 0;
-    while k < 512 {
-        ledger[at + k] = block[k];
-        k += 1;
-    }
+    ledger[at..at + 512].copy_from_slice(block);
 }
 
 // The `count` bytes that stand 512 after `at` move down by 512.
@@ -24,11 +20,7 @@ fn move_down(ledger: &mut [u8; 33280], at: usize, count: usize)
     requires { at + 512 + count ≤ 33280 }
     ensures { length ledger.old ≡ 33280 → ledger.new ≡ paste ledger.old at (drop (at + 512) ledger.old) count }
 {
-    let mut k: usize = 0;
-    while k < count {
-        ledger[at + k] = ledger[at + 512 + k];
-        k += 1;
-    }
+    ledger.copy_within(at + 512..at + 512 + count, at);
 }
 
 // Block 0 gets another count of grants, and the check that goes with it.
@@ -36,10 +28,11 @@ fn put_count(ledger: &mut [u8; 33280], n: u8, count: usize)
     requires { count ≤ 64 }
     ensures { ledger.new ≡ counted ledger.old n count }
 {
-    let check = 1 + 2 * (n as usize) + 4 * count;
+    let check = 1 + 2 * n as u16 + 4 * count as u16;
+    let [high, low] = check.to_be_bytes();
     ledger[3] = count as u8;
-    ledger[510] = (check / 256) as u8;
-    ledger[511] = (check % 256) as u8;
+    ledger[510] = high;
+    ledger[511] = low;
 }
 
 // The ledger of n names without grants.
@@ -57,26 +50,18 @@ pub fn begin(ledger: &mut [u8; 33280], n: u8)
 pub fn append(ledger: &mut [u8; 33280], n: u8, held: usize, block: &[u8])
     ensures { (blocks : List (List ℕ)) → Kept ledger.old n blocks → held ≡ length blocks → held < 64 → length block.now ≡ 512 → Rewritten ledger.old n (blocks ++ block.now ∷ []) ledger.new }
 {
-    if 64 <= held {
-        return;
+    if held < 64 && block.len() == 512 {
+        copy_in(ledger, 512 * (held + 1), block);
+        put_count(ledger, n, held + 1);
     }
-    if block.len() != 512 {
-        return;
-    }
-    copy_in(ledger, 512 * (held + 1), block);
-    put_count(ledger, n, held + 1);
 }
 
 // Without block k: the later ones move down.
 pub fn remove(ledger: &mut [u8; 33280], n: u8, held: usize, k: usize)
     ensures { (blocks : List (List ℕ)) → Kept ledger.old n blocks → held ≡ length blocks → k < held → Rewritten ledger.old n (dropped_at k blocks) ledger.new }
 {
-    if 64 < held {
-        return;
+    if k < held && held <= 64 {
+        move_down(ledger, 512 * (k + 1), 512 * (held - 1 - k));
+        put_count(ledger, n, held - 1);
     }
-    if held <= k {
-        return;
-    }
-    move_down(ledger, 512 * (k + 1), 512 * (held - 1 - k));
-    put_count(ledger, n, held - 1);
 }

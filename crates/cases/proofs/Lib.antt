@@ -1,4 +1,2 @@
 -- Laws of the test program.
-pub mod Filling
 pub mod Inputs
-pub mod Runs

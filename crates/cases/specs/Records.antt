@@ -1,8 +1,7 @@
 -- A record of the test program's data file: numbers, and where its inputs stand. Assumes nothing: these are definitions.
-use Rattle.std.specs.Prelude.{ℕ, zero, suc, ◌+◌, ◌*◌, ◌<◌, ◌≤◌, List, length}
+use Rattle.std.specs.Prelude.{ℕ, zero, suc, ◌+◌, ◌*◌, ◌<◌, ◌≤◌, List}
 use Rattle.model.specs.Bytes.{four_bytes}
 use Rattle.cases.specs.declared.Run.{Run}
-use Rattle.cases.specs.declared.Run.TheVariants.{Sizes, Broken}
 
 -- an eight-byte field
 abbrev pub eight_bytes : ℕ → List ℕ → ℕ
@@ -17,11 +16,6 @@ unfoldable pub input_start : ℕ → List ℕ → ℕ
 input_start zero bytes = 52
 input_start (suc k) bytes = input_start k bytes + input_length k bytes
 
--- the record has all its fields and inputs
-abbrev pub Whole : List ℕ → Type 0
-Whole bytes = (52 ≤ length bytes) × (input_start 5 bytes ≤ length bytes)
-
 -- a run lies within the packed bytes, and what it stands for within the room
 abbrev pub Within : Run → ℕ → ℕ → Type 0
-Within (Sizes read made) packed room = (0 < read) × (read ≤ packed) × (made ≤ room)
-Within Broken packed room = Unit {0}
+Within run packed room = (0 < run.packed) × (run.packed ≤ packed) × (run.size ≤ room)

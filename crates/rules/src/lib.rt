@@ -1,79 +1,66 @@
 // What the rules of a derivation that compare bytes ask of a step's terms: rules 2 to 7 (document 01, "Derivations"). A part that is missing is shorter, or empty.
 #![tactic(auto)]
 
-ghost use Rattle.std.specs.Prelude.{◌≡◌, ◌&&◌, ◌∷◌, ◌++◌};
+ghost use Rattle.std.specs.Prelude.{◌≡◌, ◌&&◌, List, ◌∷◌, ◌++◌, ℕ};
 ghost use Rattle.model.specs.Bytes.{same};
 ghost use Rattle.model.specs.Ledgers.{Ledger};
-ghost use Rattle.model.specs.Derivations.{left, right, transitive, conjunction, disjunction, meets};
-ghost use Rattle.rules.specs.Joining.{joins};
+ghost use Rattle.model.specs.Terms.{project_code};
+ghost use Rattle.model.specs.Derivations.{left, right, transitive, conjunction, disjunction, projection, meets};
+ghost use Rattle.words.specs.FourWords.{side_of};
+
+use fields::TermField;
+use words::Side;
+
+// Where a step's p and its q stand.
+pub const LEFT: TermField = TermField { length: 4, at: 8 };
+
+pub const RIGHT: TermField = TermField { length: 5, at: 72 };
 
 // The two are the same, byte for byte.
 fn same(a: &[u8], b: &[u8]) -> bool
     ensures { result ≡ same a.now b.now }
 {
-    if a.len() != b.len() {
-        return false;
-    }
-    let mut i: usize = 0;
-    while i < a.len() {
-        if a[i] != b[i] {
-            return false;
-        }
-        i += 1;
-    }
-    true
+    a == b
 }
 
 // The bytes are a code, then a part.
 fn code_then(s: &[u8], code: u8, a: &[u8]) -> bool
     ensures { result ≡ same s.now (code ∷ a.now) }
 {
-    if s.len() == 0 {
-        return false;
+    match s {
+        [first, rest @ ..] => *first == code && same(rest, a),
+        [] => false,
     }
-    if s[0] != code {
-        return false;
-    }
-    same(&s[1..], a)
 }
 
 // The bytes are a code, then two parts.
 fn code_then_two(s: &[u8], code: u8, a: &[u8], b: &[u8]) -> bool
     ensures { result ≡ same s.now (code ∷ a.now ++ b.now) }
 {
-    if s.len() <= a.len() {
+    let Some((first, rest)) = s.split_at_checked(1 + a.len()) else {
         return false;
-    }
-    let second = 1 + a.len();
-    let first = code_then(&s[..second], code, a);
-    if !first {
-        return false;
-    }
-    same(&s[second..], b)
+    };
+    code_then(first, code, a) && same(rest, b)
 }
 
 // A step's p and its q, parts of the step.
 pub fn left(step: &[u8]) -> &[u8]
     ensures { result.now ≡ left step.now }
 {
-    fields::term_part(step, 4, 8)
+    LEFT.bytes(step)
 }
 
 pub fn right(step: &[u8]) -> &[u8]
     ensures { result.now ≡ right step.now }
 {
-    fields::term_part(step, 5, 72)
+    RIGHT.bytes(step)
 }
 
 // Rule 2: the step's terms are p and q, the grant's.
 pub fn has_terms(step: &[u8], p: &[u8], q: &[u8]) -> bool
     ensures { result ≡ (same (left step.now) p.now && same (right step.now) q.now) }
 {
-    let first = same(left(step), p);
-    if !first {
-        return false;
-    }
-    same(right(step), q)
+    same(left(step), p) && same(right(step), q)
 }
 
 // Rule 3: the first premise is p for m, the second m for q.
@@ -81,65 +68,84 @@ pub fn has_terms(step: &[u8], p: &[u8], q: &[u8]) -> bool
 pub fn transitive(step: &[u8], a: &[u8], b: &[u8]) -> bool
     ensures { (l : Ledger) → result ≡ meets l transitive step.now a.now b.now }
 {
-    let first = same(left(a), left(step));
-    if !first {
-        return false;
-    }
-    let middle = same(right(a), left(b));
-    if !middle {
-        return false;
-    }
-    same(right(b), right(step))
+    same(left(a), left(step)) && same(right(a), left(b)) && same(right(b), right(step))
 }
 
-// Rules 4 and 5: the whole is a code, then the premises' terms on that side in order; on the other side both are the common term.
-fn joins(
-    code: u8,
-    whole: &[u8],
-    first: &[u8],
-    second: &[u8],
-    common: &[u8],
-    one: &[u8],
-    other: &[u8],
-) -> bool
-    ensures { result ≡ joins code whole.now first.now second.now common.now one.now other.now }
+// A step's two terms.
+#[derive(Clone, Copy)]
+struct Terms<'a> {
+    left: &'a [u8],
+    right: &'a [u8],
+}
+
+impl<'a> Terms<'a> {
+    fn of(step: &'a [u8]) -> Self
+        ensures left { result.left.now ≡ left step.now }
+        ensures right { result.right.now ≡ right step.now }
+    {
+        Terms {
+            left: left(step),
+            right: right(step),
+        }
+    }
+
+    // Each in the other's place.
+    fn swapped(self) -> Self
+        ensures left { result.left.now ≡ self.entry.right.now }
+        ensures right { result.right.now ≡ self.entry.left.now }
+    {
+        Terms {
+            left: self.right,
+            right: self.left,
+        }
+    }
+}
+
+// Rules 4 and 5: on the right the whole is a code, then the premises' terms in order; on the left both are the whole's.
+fn joins(code: u8, whole: Terms<'_>, a: Terms<'_>, b: Terms<'_>) -> bool
+    ensures { result ≡ (same whole.entry.right.now (code ∷ a.entry.right.now ++ b.entry.right.now) && (same a.entry.left.now whole.entry.left.now && same b.entry.left.now whole.entry.left.now)) }
 {
-    let parts = code_then_two(whole, code, first, second);
-    if !parts {
-        return false;
-    }
-    let first = same(one, common);
-    if !first {
-        return false;
-    }
-    same(other, common)
+    code_then_two(whole.right, code, a.right, b.right)
+        && same(a.left, whole.left)
+        && same(b.left, whole.left)
 }
 
 // Rule 4: q is 30, then the premises' right terms in order; both left terms are p.
+#[tactic(auto, unfolding(model::specs::Derivations::meets))]
 pub fn conjunction(step: &[u8], a: &[u8], b: &[u8]) -> bool
     ensures { (l : Ledger) → result ≡ meets l conjunction step.now a.now b.now }
 {
-    let p = left(step);
-    let q = right(step);
-    joins(0x30, q, right(a), right(b), p, left(a), left(b))
+    joins(0x30, Terms::of(step), Terms::of(a), Terms::of(b))
 }
 
 // Rule 5: p is 31, then their left terms in order; both right terms are q.
+#[tactic(auto, unfolding(model::specs::Derivations::meets))]
 pub fn disjunction(step: &[u8], a: &[u8], b: &[u8]) -> bool
     ensures { (l : Ledger) → result ≡ meets l disjunction step.now a.now b.now }
 {
-    let p = left(step);
-    let q = right(step);
-    joins(0x31, p, left(a), left(b), q, right(a), right(b))
+    joins(
+        0x31,
+        Terms::of(step).swapped(),
+        Terms::of(a).swapped(),
+        Terms::of(b).swapped(),
+    )
 }
 
-// Rules 6 and 7: p and q are the code before the terms of the premise.
-pub fn projects(code: u8, step: &[u8], a: &[u8]) -> bool
-    ensures { result ≡ (same (left step.now) (code ∷ left a.now) && same (right step.now) (code ∷ right a.now)) }
+// The code of a projection to a side.
+fn code_of(side: Side) -> u8
+    ensures { result ≡ project_code (side_of side) }
 {
-    let p = code_then(left(step), code, left(a));
-    if !p {
-        return false;
+    match side {
+        Side::See => 0x40,
+        Side::Change => 0x41,
     }
-    code_then(right(step), code, right(a))
+}
+
+// Rules 6 and 7: p and q are the side's code before the terms of the premise.
+#[tactic(auto, unfolding(model::specs::Derivations::meets))]
+pub fn projects(side: Side, step: &[u8], a: &[u8]) -> bool
+    ensures { (l : Ledger) (b : List ℕ) → result ≡ meets l (projection (side_of side)) step.now a.now b }
+{
+    let code = code_of(side);
+    code_then(left(step), code, left(a)) && code_then(right(step), code, right(a))
 }

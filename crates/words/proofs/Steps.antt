@@ -20,9 +20,10 @@ use Rattle.words.specs.declared.Rows.{Rows}
 use Rattle.words.specs.AnyBytes.{Taken, TakenAll, no_code, take_parts, taken, term_in}
 use Rattle.words.specs.FourWords.{RowAt, RowsAt, each_word, each_row, same_row, same_rows, row_in}
 use Rattle.std.specs.Prelude.{Some, None}
-use Rattle.words.specs.declared.Joiner.{Joiner}
-use Rattle.words.specs.declared.Joiner.TheVariants.{Both, Either}
-use Rattle.words.specs.Evaluation.{joiner_of, joined, projected, Evaluated, left_over, quorum_at}
+use Rattle.terms.specs.declared.Joiner.{Joiner}
+use Rattle.terms.specs.declared.Joiner.TheVariants.{Both, Either}
+use Rattle.terms.specs.Joiners.{joiner_at}
+use Rattle.words.specs.Evaluation.{joined, projected, Evaluated, left_over, quorum_at}
 use Rattle.words.proofs.AnyBytes.{taken_end, taken_at, quorum_at_lem, no_quorum_at, all_none}
 use Rattle.words.proofs.Tallies.{Weighing, tally_done}
 use Rattle.words.proofs.FourWords.{row_none, row_all, row_both, row_either, rows_each, rows_same, rows_of}
@@ -63,7 +64,7 @@ no_code_lem c l t m =
     rw (r.no_name, t, r.no_bottom, r.no_both, r.no_either, m, r.no_see, r.no_change)
 
 -- the code of a joiner, and a byte that is none
-joiner_both : (c : ℕ) → joiner_of c ≡ Some Both → c ≡ 0x30
+joiner_both : (c : ℕ) → joiner_at c ≡ Some Both → c ≡ 0x30
 joiner_both c e = by (eqb c 0x30) (eqb c 0x31) refl refl e
   where
     by : (a b : Bool) → eqb c 0x30 ≡ a → eqb c 0x31 ≡ b → cond a (Some Both) (cond b (Some Either) None) ≡ Some Both → c ≡ 0x30
@@ -71,7 +72,7 @@ joiner_both c e = by (eqb c 0x30) (eqb c 0x31) refl refl e
     by false true p q e = cc
     by false false p q e = cc
 
-joiner_either : (c : ℕ) → joiner_of c ≡ Some Either → c ≡ 0x31
+joiner_either : (c : ℕ) → joiner_at c ≡ Some Either → c ≡ 0x31
 joiner_either c e = by (eqb c 0x30) (eqb c 0x31) refl refl e
   where
     by : (a b : Bool) → eqb c 0x30 ≡ a → eqb c 0x31 ≡ b → cond a (Some Both) (cond b (Some Either) None) ≡ Some Either → c ≡ 0x31
@@ -79,7 +80,7 @@ joiner_either c e = by (eqb c 0x30) (eqb c 0x31) refl refl e
     by false true p q e = eqb-true c 0x31 q
     by false false p q e = cc
 
-joiner_none : (c : ℕ) → joiner_of c ≡ None → (eqb c 0x30 || eqb c 0x31) ≡ false
+joiner_none : (c : ℕ) → joiner_at c ≡ None → (eqb c 0x30 || eqb c 0x31) ≡ false
 joiner_none c e = by (eqb c 0x30) (eqb c 0x31) e
   where
     by : (a b : Bool) → cond a (Some Both) (cond b (Some Either) None) ≡ None → (a || b) ≡ false
@@ -88,7 +89,7 @@ joiner_none c e = by (eqb c 0x30) (eqb c 0x31) e
     by false false e = refl
 
 -- a byte that `hold` takes for no other code is left over, and a place with one is not past the end
-pub left_over_lem : (c : ℕ) → 12 ≤ c → joiner_of c ≡ None → (c ≡ 0x21 → ⊥) → (c ≡ 0x40 → ⊥) → (c ≡ 0x41 → ⊥) → left_over c ≡ true
+pub left_over_lem : (c : ℕ) → 12 ≤ c → joiner_at c ≡ None → (c ≡ 0x21 → ⊥) → (c ≡ 0x40 → ⊥) → (c ≡ 0x41 → ⊥) → left_over c ≡ true
 left_over_lem c l j b e f = rw (le-ltb c 12 l, joiner_none c j, ne_eqb c 0x21 b, ne_eqb c 0x40 e, ne_eqb c 0x41 f)
 
 pub left_over_inside : (s : List ℕ) (at : ℕ) → left_over (get_or s at 0) ≡ true → at < length s
@@ -164,7 +165,7 @@ module _ (s : List ℕ) (at g : ℕ) (h : at < length s) where
     eval_disj e = eval_two bit_or disj (λ t u side a b. row_either g (held t side) (held u side) a b) (ap (code_of 12) e)
 
     -- both where the code is 30, and either where it is the other that has two parts
-    pub eval_join : (j : Joiner) (z : Rows) → joiner_of (get_or s at 0) ≡ Some j → z ≡ joined j x y → Evaluated s at g z m'
+    pub eval_join : (j : Joiner) (z : Rows) → joiner_at (get_or s at 0) ≡ Some j → z ≡ joined j x y → Evaluated s at g z m'
     eval_join Both z e w = rw w (eval_conj (joiner_both (get_or s at 0) e))
     eval_join Either z e w = rw w (eval_disj (joiner_either (get_or s at 0) e))
 

@@ -6,8 +6,8 @@ use Rattle.model.specs.Sides.{Side, confidentiality, integrity}
 use Rattle.model.specs.Coalitions.{mark, packed}
 use Rattle.model.specs.Terms.{Term, quorate, held}
 use Rattle.words.specs.declared.Rows.{Rows}
-use Rattle.words.specs.declared.Joiner.{Joiner}
-use Rattle.words.specs.declared.Joiner.TheVariants.{Both, Either}
+use Rattle.terms.specs.declared.Joiner.{Joiner}
+use Rattle.terms.specs.declared.Joiner.TheVariants.{Both, Either}
 use Rattle.words.specs.AnyBytes.{taken, term_in}
 use Rattle.words.specs.FourWords.{RowsAt, each_row, same_row}
 
@@ -43,10 +43,6 @@ pub record Evaluated (bytes : List ℕ) (at g : ℕ) (rows : Rows) (next : ℕ) 
 -- a byte that is no name, not both or either, not 21 and no side
 abbrev pub left_over : ℕ → Bool
 left_over c = not (ltb c 12 || ((eqb c 0x30 || eqb c 0x31) || (eqb c 0x21 || (eqb c 0x40 || eqb c 0x41))))
-
--- the joiner that a code stands for, both or either
-abbrev pub joiner_of : ℕ → Option Joiner
-joiner_of c = if eqb c 0x30 then Some Both else (if eqb c 0x31 then Some Either else None)
 
 -- two parts joined
 abbrev pub joined : Joiner → Rows → Rows → Rows

@@ -8,14 +8,16 @@ ghost use Rattle.model.specs.Coalitions.{member, packed};
 ghost use Rattle.model.specs.Terms.{quorate};
 ghost use Rattle.words.specs.AnyBytes.{term_in};
 ghost use Rattle.words.specs.FourWords.{side_of, AtEachWord, AtEachSide, each_word, each_row, lacks_word, same_row, same_rows, both_sides, empty_row, empty_rows, row_set, row_in, RowAt, Weighed};
-ghost use Rattle.words.specs.Evaluation.{coalition_word, job_of, joiner_of, joined, projected, word_count, row_count, left_over, quorum_at, Evaluated, EvaluatedTo, LowestBit};
+ghost use Rattle.words.specs.Evaluation.{coalition_word, job_of, joined, projected, word_count, row_count, left_over, quorum_at, Evaluated, EvaluatedTo, LowestBit};
+
+use terms::Joiner;
 
 // The word of the strongest party, held nowhere, and that of the weakest, held everywhere.
 const NONE: u64 = 0;
 
 const ALL: u64 = 0xFFFF_FFFF_FFFF_FFFF;
 
-#[derive(Clone, Copy)]
+#[derive(Clone, Copy, Debug, PartialEq, Eq)]
 pub enum Side {
     See,
     Change,
@@ -23,7 +25,7 @@ pub enum Side {
 
 // A row of a set of coalitions: its four words, lowest first.
 // Kept: four fields stay in registers, where an array of four words goes through memory at each call.
-#[derive(Clone, Copy)]
+#[derive(Clone, Copy, Debug, PartialEq, Eq)]
 pub struct Row {
     pub a: u64,
     pub b: u64,
@@ -32,7 +34,7 @@ pub struct Row {
 }
 
 // A row on each side.
-#[derive(Clone, Copy)]
+#[derive(Clone, Copy, Debug, PartialEq, Eq)]
 pub struct Rows {
     pub see: Row,
     pub change: Row,
@@ -164,7 +166,7 @@ fn name_row(i: u8, g: u64) -> Row
 
 // A row of a term on both sides, and the place after the term's codes. The place stands first: with it last the compiler pairs the words off by one, and
 // each pair is read back slowly.
-#[derive(Clone, Copy)]
+#[derive(Clone, Copy, Debug, PartialEq, Eq)]
 pub struct Held {
     pub next: usize,
     pub rows: Rows,
@@ -188,36 +190,13 @@ fn hold_name(codes: &[u8], at: usize, g: u64) -> Held
     }
 }
 
-// The codes that have two parts.
-#[derive(Clone, Copy)]
-enum Joiner {
-    Both,
-    Either,
-}
-
-impl Joiner {
-    fn of(code: u8) -> Option<Joiner>
-        ensures { result ≡ joiner_of code }
-    {
-        // Kept: a match is slower, since the compiler makes one jump table in `hold` of it and the other codes.
-        if code == 0x30 || code == 0x31 {
-            Some(if code == 0x30 {
-                Joiner::Both
-            } else {
-                Joiner::Either
-            })
-        } else {
-            None
-        }
-    }
-
-    fn join(self, p: Rows, q: Rows) -> Rows
-        ensures { result ≡ joined self p q }
-    {
-        match self {
-            Joiner::Both => each_side(p, q, both),
-            Joiner::Either => each_side(p, q, either),
-        }
+// The rows of two parts that are joined.
+fn join(joiner: Joiner, p: Rows, q: Rows) -> Rows
+    ensures { result ≡ joined joiner p q }
+{
+    match joiner {
+        Joiner::Both => each_side(p, q, both),
+        Joiner::Either => each_side(p, q, either),
     }
 }
 
@@ -267,7 +246,7 @@ pub fn hold(codes: &[u8], at: usize, g: u64) -> Held
         };
         return Held {
             next: q.next,
-            rows: joiner.join(p.rows, q.rows),
+            rows: join(joiner, p.rows, q.rows),
         };
     }
     // What is left over goes to `hold_quorum`, so that quorums cost the other codes no test. Its result is taken apart: handed on whole, that of every code would

@@ -1,16 +1,13 @@
-use native.Mathlib.Omega.{arith}
-use mathlib.Core.Path.{sym}
+use Rattle.std.proofs.Common.{sym, arith}
 use borrow.Author.Tests.{eq-eqb, ne_eqb}
 use Rattle.rules.proofs.Comparing.{code_none, code_first}
 use Rattle.rules.proofs.code_then.Goals as goal
 
-pub returns-then-s-eq0 : goal.returns-then-s-eq0
-returns-then-s-eq0 c = let a = c.args in sym (code_none a.s.now a.a.now a.code (omega arith))
+pub returns-in-empty : goal.returns-in-empty
+returns-in-empty c = sym (code_none c.args.s.now c.args.a.now c.args.code (omega arith))
 
-pub returns-then-s-code : goal.returns-then-s-code
-returns-then-s-code c = let a = c.args in
-    simp (code_first a.s.now a.a.now a.code c.if-s-eq0.false, ne_eqb _ _ c.if-s-code.true)
+pub returns-then-first-code : goal.returns-then-first-code
+returns-then-first-code c = simp (code_first c.args.s.now c.args.a.now c.args.code c.in-len1-up.len_at_least, eq-eqb _ _ c.if-first-code.true) c.same.ensures
 
-pub returns : goal.returns
-returns c = let a = c.args in
-    simp (code_first a.s.now a.a.now a.code c.if-s-eq0.false, eq-eqb _ _ c.if-s-code.false) c.same.ensures
+pub returns-else-first-code : goal.returns-else-first-code
+returns-else-first-code c = simp (code_first c.args.s.now c.args.a.now c.args.code c.in-len1-up.len_at_least, ne_eqb _ _ c.if-first-code.false)

@@ -1,22 +1,18 @@
 -- The front is a code and the first part, the rest the second.
-use native.Mathlib.Omega.{arith}
-use mathlib.Core.Path.{sym, ◌∙◌}
-use mathlib.Core.List.{◌++◌}
-use lib.ListN.{length-append}
+use Rattle.std.proofs.Common.{sym, ◌∙◌, ◌++◌, arith, length-append, refl}
+use Rattle.model.specs.Bytes.{same}
 use Rattle.rules.proofs.Comparing.{code_none, code_parts}
 use Rattle.rules.proofs.code_then_two.Goals as goal
 
-pub returns-then-s-a : goal.returns-then-s-a
-returns-then-s-a c =
-    let a = c.args in
-    sym (code_none a.s.now (a.a.now ++ a.b.now) a.code (rw length-append (omega arith)))
+pub returns-in_default : goal.returns-in_default
+returns-in_default c = sym (code_none c.args.s.now (c.args.a.now ++ c.args.b.now) c.args.code (rw length-append (omega (arith, c.in_default.ensures.cases))))
 
-pub returns-then-not-first : goal.returns-then-not-first
-returns-then-not-first c =
-    let a = c.args in
-    simp (code_parts a.s.now a.a.now a.b.now a.code, sym c.code_then-first.ensures ∙ c.if-not-first.true)
+pub returns-then-code_then : goal.returns-then-code_then
+returns-then-code_then c =
+    let e = c.in-Some.ensures.cases in
+    rw c.if-code_then.true at (code_parts c.args.s.now c.args.a.now c.args.b.now _ _ c.args.code _ _ e.1 e.2 c.code_then.ensures c.same.ensures)
 
-pub returns : goal.returns
-returns c =
-    let a = c.args in
-    simp (code_parts a.s.now a.a.now a.b.now a.code, sym c.code_then-first.ensures ∙ c.if-not-first.false) c.same.ensures
+pub returns-else-code_then : goal.returns-else-code_then
+returns-else-code_then c =
+    let e = c.in-Some.ensures.cases in
+    c.if-code_then.false ∙ (rw c.if-code_then.false at (code_parts c.args.s.now c.args.a.now c.args.b.now _ _ c.args.code _ (same c.in-Some.rest.now c.args.b.now) e.1 e.2 c.code_then.ensures refl))

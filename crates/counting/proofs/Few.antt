@@ -1,10 +1,10 @@
 -- A coalition's names from m up make no difference to terms whose names are below m, so that a grant is judged in m names as in more. Assumes nothing.
 use mathlib.Core.Path.{◌≡◌, refl, sym, ap, ap₂, ◌∙◌, subst}
-use mathlib.Core.Bool.{Bool, true, false, not, ◌&&◌, ◌||◌}
+use mathlib.Core.Bool.{Bool, true, false, true≢false, not, ◌&&◌, ◌||◌}
 use mathlib.Core.List.{List}
-use Prim.Native.Nat.{ℕ, zero, suc, ◌+◌, ◌*◌, ◌/◌, ◌%◌, ◌^◌, ◌≤◌, ◌<◌}
+use Prim.Native.Nat.{ℕ, zero, suc, ◌+◌, ◌-◌, ◌*◌, ◌/◌, ◌%◌, ◌^◌, ◌≤◌, ◌<◌}
 use native.Mathlib.Nat.{mod-lt, pow-suc}
-use native.Mathlib.Decide.{ℕ_discrete, dec_lt}
+use native.Mathlib.Decide.{dec_lt}
 use native.Mathlib.Omega.{arith}
 use lib.Arith.{mod-mul}
 use lib.Dec.{eqb, leb}
@@ -26,7 +26,15 @@ use Rattle.words.proofs.Names.{rows_few_of}
 use Rattle.words.proofs.Searches.{clear_all}
 use Rattle.ledgers.specs.Places.{q_place, label_place}
 use Rattle.counting.specs.Counted.{grant_in, bars_counting, bars_at, heard_at, NamesAt, NeededOf, ClearedTo}
+use Rattle.std.specs.Bool.{MatchBool}
+use Rattle.std.specs.List.{AllWithin, HoldsAt, range_with_len}
+use Rattle.std.proofs.lemmas.List.FromFn.{get_or-range_with_len, length-range_with_len}
+use Rattle.words.specs.declared.Row.{Row}
+use Rattle.words.specs.FourWords.{RowAt, empty_row}
+use Rattle.words.proofs.FourWords.{row_empty}
+use Rattle.words.proofs.Searches.{clear_not}
 use Rattle.counting.proofs.Bars.{heard_bars}
+use Rattle.counting.proofs.Tests.{marked_job}
 
 -- the m + 1 low digits
 digits : (c m : ℕ) → c % 2 ^ suc m ≡ (c / 2 % 2 ^ m) * 2 + c % 2
@@ -98,15 +106,6 @@ heard_few m n L g h a b d =
 abbrev pub NamesTo : List ℕ → ℕ → ℕ → ℕ → Type 0
 NamesTo bytes at end most = (j : ℕ) → at ≤ j → j < end → j < length bytes → get_or bytes j 0 < 12 → get_or bytes j 0 < most
 
-pub names_none : (bytes : List ℕ) (at most : ℕ) → NamesTo bytes at at most
-names_none bytes at most j a b = absurd (omega arith)
-
-pub names_next : (bytes : List ℕ) (at i most next : ℕ) → NamesTo bytes at i most → most ≤ next → (get_or bytes i 0 < 12 → get_or bytes i 0 < next) → NamesTo bytes at (i + 1) next
-names_next bytes at i most next so_far more here j a b l n = elim (ℕ_discrete j i) [
-  | yes e ↦ rw e (here (rw e at n))
-  | no d ↦ (let x = so_far j a (omega arith) l n in omega arith)
-]
-
 -- all bytes that the term takes were looked at, as far as there are any
 pub names_found : (bytes : List ℕ) (at least i most end : ℕ) → least ≤ most → end ≡ at + (taken (drop at bytes)).size → NamesTo bytes at i most
     → ((j : ℕ) → j < end → j < length bytes → j < i) → NamesAt bytes at least most
@@ -141,6 +140,50 @@ clear_fewer m n f g h clear c l = elim (dec_lt c (2 ^ m)) [
   | yes b ↦ (let e = lt-ltb c (2 ^ n) (omega (arith, pow_mono h)) in rw (lt-ltb c (2 ^ m) b) (rw e at (clear c l)))
   | no b ↦ rw (le-ltb c (2 ^ m) (omega arith))
 ]
+
+-- ---- a row that is looked at, and all of them
+
+-- no coalition of row g bars the grant, and some coalition does, so that it is not heard
+unfoldable pub RowClear : List ℕ → ℕ → ℕ → List ℕ → ℕ → Type 0
+RowClear ledger n k label g = g < 16 → (c : ℕ) → 256 * g ≤ c → c < 256 * g + 256 → mark (job_of n) (bars_at ledger label k) c ≡ false
+
+unfoldable pub RowBars : List ℕ → ℕ → ℕ → List ℕ → ℕ → Type 0
+RowBars ledger n k label g = g < 16 → heard_at ledger n label k ≡ false
+
+module _ (ledger : List ℕ) (n k : ℕ) (label : List ℕ) where
+  module _ (g : ℕ) (x : Row) (r : RowAt (mark n (bars_at ledger label k)) g x) where
+    pub row_clear : true ≡ empty_row x → RowClear ledger n k label g
+    unfolding RowClear
+    row_clear e h = row_empty (mark (job_of n) (bars_at ledger label k)) g x (marked_job n g (bars_at ledger label k) x h r) (sym e)
+
+    pub row_bars : false ≡ empty_row x → RowBars ledger n k label g
+    unfolding RowBars
+    row_bars e h =
+        heard_bars (job_of n) _ (marks_of (grant_in ledger k))
+        ∙ sym (clear_not (job_of n) (bars_at ledger label k) _ _ (marked_job n g (bars_at ledger label k) x h r) (sym e))
+
+  pub rows_cleared : (from to : ℕ) (r : Bool) → to ≤ 16
+      → MatchBool r (AllWithin (RowClear ledger n k label) (range_with_len from (to - from)) 0 (length (range_with_len from (to - from))))
+      ((i : ℕ) × (i < length (range_with_len from (to - from))) × HoldsAt (RowBars ledger n k label) (range_with_len from (to - from)) i)
+      → ClearedTo ledger n k label from to r
+  unfolding RowClear RowBars
+  rows_cleared from to true few m = record {
+    clear = λ _ before c h. elim (dec_lt c (256 * from)) [
+      | yes l ↦ before c l
+      | no l ↦ (
+          let g = c / 256 in
+          let at : from + (g - from) ≡ g = omega arith in
+          let there : get_or (range_with_len from (to - from)) (g - from) 0 ≡ g = get_or-range_with_len from (to - from) (g - from) 0 (omega arith) ∙ at in
+          (rw there at (m (g - from) 0 (omega arith) (omega (arith, length-range_with_len from (to - from))))) (omega arith) c (omega arith) (omega arith))
+    ];
+    barred = λ e. absurd (true≢false e);
+  }
+  rows_cleared from to false few m = record {
+    clear = λ e. absurd (true≢false (sym e));
+    barred = λ _.
+        let there : get_or (range_with_len from (to - from)) m.0 0 ≡ from + m.0 = get_or-range_with_len from (to - from) m.0 0 (omega (arith, m.1, length-range_with_len from (to - from))) in
+        (rw there at (m.2 0)) (omega (arith, m.1, length-range_with_len from (to - from)));
+  }
 
 -- ---- all rows looked at
 

@@ -1,27 +1,16 @@
 -- What is known of the grants, before one is judged and after. Assumes nothing.
 use mathlib.Core.Path.{◌≡◌, refl, sym, ap, ◌∙◌}
 use mathlib.Core.Bool.{Bool, true, false, cond}
-use Prim.Native.Nat.{ℕ, ◌-◌, ◌/◌, ◌%◌, ◌^◌, ◌≤◌, ◌<◌}
+use Prim.Native.Nat.{ℕ, ◌-◌, ◌^◌, ◌<◌}
 use native.Mathlib.Decide.{ℕ_discrete, dec_lt}
 use native.Mathlib.Omega.{arith}
-use lib.Pow.{pow_mono}
-use borrow.Author.Tests.{eq-eqb}
 use Rattle.model.specs.Coalitions.{member}
 use Rattle.model.proofs.Truth.{clash}
 use Rattle.model.proofs.Packed.{member-packed}
-use Rattle.model.proofs.Monotone.{member_past, less_lacks, less_keeps}
-use Rattle.words.proofs.Packing.{packed_all}
+use Rattle.model.proofs.Monotone.{less_lacks, less_keeps}
+use Rattle.words.proofs.Packing.{packed_all, past_word}
 use Rattle.counting.specs.declared.Known.{Known}
 use Rattle.counting.specs.Counted.{nothing_known, KnownOf, judged_at}
-
--- the code's test of a bit
-pub bit_on : (k x : ℕ) → (x / 2 ^ k % 2 ≡ 0 → ⊥) → member k x ≡ true
-unfolding member
-bit_on k x e = eq-eqb (x / 2 ^ k % 2) 1 (omega arith)
-
-pub bit_off : (k x : ℕ) → x / 2 ^ k % 2 ≡ 0 → member k x ≡ false
-unfolding member
-bit_off k x e = rw e
 
 all_on : (k : ℕ) → k < 64 → member k 0xFFFF_FFFF_FFFF_FFFF ≡ true
 all_on k h = ap (member k) (sym (packed_all 0 64)) ∙ member-packed (λ c. true) 0 64 k h
@@ -31,10 +20,6 @@ known_nothing f = record {
   judged = λ k h e. absurd (clash (all_on k h) e);
   closed = λ k h e. absurd (clash (all_on k h) e);
 }
-
--- a word has no bit 64 or further up
-pub past_word : (k x : ℕ) → 64 ≤ k → x < 2 ^ 64 → member k x ≡ false
-past_word k x h l = member_past k x (omega (arith, pow_mono h))
 
 -- so a grant that may count is one of the 64
 pub may_below : (k x : ℕ) → x < 2 ^ 64 → member k x ≡ true → k < 64

@@ -13,16 +13,13 @@ use words::Row;
 fn barring(ledger: &[u8], k: usize, label: &[u8], g: u64) -> Row
     ensures { RowAt (bars_at ledger.now label.now k) g result }
 {
-    let asked = words::hold(label, 0, g);
-    let under = asked.rows;
-    let said = words::hold(ledger, ledgers::label_place(k), g);
-    let own = said.rows;
+    let under = words::hold(label, 0, g).rows;
+    let own = words::hold(ledger, ledgers::label_place(k), g).rows;
     let unseen = words::without(under.see, own.see);
     if words::empty(own.change) {
         return unseen;
     }
-    let held = words::hold(ledger, ledgers::q_place(k), g);
-    let q = held.rows;
+    let q = words::hold(ledger, ledgers::q_place(k), g).rows;
     let voice = words::both(q.see, q.change);
     let allowed = words::both(under.change, voice);
     words::either(unseen, words::without(own.change, allowed))
@@ -43,16 +40,10 @@ fn barring_of(ledger: &[u8], n: u64, k: usize, label: &[u8], g: u64) -> Row
 fn names_at(codes: &[u8], at: usize, least: u64) -> u64
     ensures { NamesAt codes.now at least result }
 {
-    let held = words::hold(codes, at, 0);
-    let end = held.next;
+    let end = words::hold(codes, at, 0).next;
     let mut most = least;
-    let mut i = at;
-    while i < end {
-        if codes.len() <= i {
-            return most;
-        }
-        most = above_name(codes[i], most);
-        i += 1;
+    for code in fields::part(codes, at, end - at) {
+        most = above_name(*code, most);
     }
     most
 }
@@ -61,14 +52,11 @@ fn names_at(codes: &[u8], at: usize, least: u64) -> u64
 fn above_name(code: u8, most: u64) -> u64
     ensures { (most ≤ result) × (code < 12 → code < result) }
 {
-    let name = code as u64;
-    if 12 <= name {
-        return most;
+    if code < 12 {
+        most.max(code as u64 + 1)
+    } else {
+        most
     }
-    if name < most {
-        return most;
-    }
-    name + 1
 }
 
 // How many of the n names there is need to ask when grant k is judged: those up to the highest of the label, of the grant's label and of its q, and at least
@@ -79,10 +67,7 @@ fn names_needed(ledger: &[u8], n: u64, k: usize, label: &[u8]) -> u64
     let asked = names_at(label, 0, 8);
     let own = names_at(ledger, ledgers::label_place(k), asked);
     let all = names_at(ledger, ledgers::q_place(k), own);
-    if n <= all {
-        return n;
-    }
-    all
+    n.min(all)
 }
 
 // No coalition of n names in the rows from one to another bars grant k.
@@ -90,23 +75,14 @@ fn rows_clear(ledger: &[u8], n: u64, k: usize, label: &[u8], from: u64, to: u64)
     requires { to ≤ 16 }
     ensures { ClearedTo ledger.now n k label.now from to result }
 {
-    let mut g = from;
-    while g < to {
-        let clear = words::empty(barring_of(ledger, n, k, label, g));
-        if !clear {
-            return false;
-        }
-        g += 1;
-    }
-    true
+    (from..to).all(|g| words::empty(barring_of(ledger, n, k, label, g)))
 }
 
 // Grant k is visible under the label, and spoken. The first row tells most grants that are not.
 fn heard(ledger: &[u8], n: u64, k: usize, label: &[u8]) -> bool
     ensures { result ≡ heard_at ledger.now n label.now k }
 {
-    let first = rows_clear(ledger, n, k, label, 0, 1);
-    if !first {
+    if !rows_clear(ledger, n, k, label, 0, 1) {
         return false;
     }
     if n <= 8 {
@@ -130,11 +106,7 @@ fn on_day(ledger: &[u8], k: usize, day: u32) -> bool
 pub fn counts(ledger: &[u8], n: u64, k: usize, label: &[u8], day: u32) -> bool
     ensures { result ≡ counts_at ledger.now n label.now day k }
 {
-    let current = on_day(ledger, k, day);
-    if !current {
-        return false;
-    }
-    heard(ledger, n, k, label)
+    on_day(ledger, k, day) && heard(ledger, n, k, label)
 }
 
 // Bit k is set exactly if grant k counts. No ledger has more grants than 64.
@@ -145,11 +117,8 @@ pub fn counted(ledger: &[u8], n: u64, grants: usize, label: &[u8], day: u32) -> 
         return 0;
     }
     let mut counted: u64 = 0;
-    let mut k = grants;
-    while 0 < k {
-        k -= 1;
-        let counts = counts(ledger, n, k, label, day);
-        counted = (counted << 1) | (counts as u64);
+    for k in (0..grants).rev() {
+        counted = (counted << 1) | counts(ledger, n, k, label, day) as u64;
     }
     counted
 }
@@ -175,33 +144,26 @@ pub fn unknown() -> Known
 pub fn may_count(known: Known, k: usize) -> bool
     ensures { result ≡ member k known.possible }
 {
-    if 64 <= k {
-        return false;
-    }
-    (known.possible >> k) % 2 == 1
+    words::bit_set(known.possible, k)
 }
 
 // What is known once grant k, if it may count, is judged. It is judged once.
 pub fn judge(ledger: &[u8], n: u64, k: usize, label: &[u8], day: u32, known: Known) -> Known
     ensures { result ≡ judged_at (counts_at ledger.now n label.now day k) k known }
 {
-    let may = may_count(known, k);
-    if !may {
-        return known;
-    }
-    if (known.unjudged >> k) % 2 == 0 {
+    if !may_count(known, k) || !words::bit_set(known.unjudged, k) {
         return known;
     }
     let bit: u64 = 1 << k;
-    let unjudged = known.unjudged - bit;
+    let judged = Known {
+        unjudged: known.unjudged - bit,
+        ..known
+    };
     if counts(ledger, n, k, label, day) {
-        return Known {
-            unjudged,
-            possible: known.possible,
-        };
+        return judged;
     }
     Known {
-        unjudged,
         possible: known.possible - bit,
+        ..judged
     }
 }

@@ -6,7 +6,7 @@ use native.Mathlib.Nat.{div-one, zero-div, pow-suc, div-div-eq-div-mul}
 use native.Mathlib.Numerals.{add-one}
 use native.Mathlib.Decide.{dec_lt}
 use native.Mathlib.Omega.{arith}
-use lib.Bits.{bit_and, bit_xor, xor_add_and}
+use lib.Bits.{bit_xor, xor_add_and}
 use lib.Dec.{eqb}
 use borrow.Author.Tests.{eq-eqb, ne_eqb}
 use Rattle.model.specs.Coalitions.{member, bit, packed}
@@ -14,13 +14,9 @@ use Rattle.model.proofs.Truth.{clash}
 use Rattle.model.proofs.Packed.{bits_ext}
 use Rattle.words.specs.declared.Row.{Row}
 use Rattle.words.specs.FourWords.{RowAt, each_word, lacks_word}
+use Rattle.planes.specs.Digits.{other, Carrying}
 use Rattle.words.proofs.Packing.{packed-and}
 use Rattle.words.proofs.FourWords.{each_in, row_both, row_lacks, row_cong}
-
--- one or the other, and not both
-abbrev pub other : Bool → Bool → Bool
-other true b = not b
-other false b = b
 
 both_bits : (a b : Bool) → bit (other a b) + bit (a && b) * 2 ≡ bit a + bit b
 both_bits false false = refl
@@ -94,29 +90,38 @@ other_twice false false = refl
 abbrev pub plus : (ℕ → ℕ) → (ℕ → Bool) → ℕ → ℕ
 plus f m c = f c + bit (m c)
 
--- digit j of the numbers f, and what is carried into it where 1 is added at those of m
+-- digit j of the numbers f
 abbrev pub DigitOf : (ℕ → ℕ) → ℕ → ℕ → Row → Type 0
 DigitOf f j g x = RowAt (λ c. member j (f c)) g x
 
-abbrev pub CarriedOf : (ℕ → ℕ) → (ℕ → Bool) → ℕ → ℕ → Row → Type 0
-CarriedOf f m j g x = RowAt (λ c. carried j (f c) (m c)) g x
-
-pub carried_first : (f : ℕ → ℕ) (m : ℕ → Bool) (g : ℕ) (x : Row) → RowAt m g x → CarriedOf f m 0 g x
-unfolding carried
-carried_first f m g x e = e
-
-module _ (f : ℕ → ℕ) (m : ℕ → Bool) (g j : ℕ) (x y : Row) (carry : CarriedOf f m j g y) where
-  pub up_digit : DigitOf f j g x → DigitOf (plus f m) j g (each_word bit_xor x y)
-  up_digit e = row_cong g _ (λ c. member j (f c + bit (m c))) _ (λ c _ _. sym (carry_digit j (f c) (m c))) (row_other g _ _ x y e carry)
-
-  pub up_carry : DigitOf f j g x → CarriedOf f m (j + 1) g (each_word bit_and x y)
+module _ (g : ℕ) (f : ℕ → ℕ) (m : ℕ → Bool) where
+  pub carrying_up : (of : Row → Row → Row → Type 0) → ((x y z : Row) → of x y z → z ≡ x) → Carrying of g f (plus f m) m
   unfolding carried
-  up_carry e = rw (add-one) (row_both g _ _ x y e carry)
+  carrying_up of is = record {
+    carry = λ j c. carried j (f c) (m c);
+    first = λ x e. e;
+    digit = λ j c. carry_digit j (f c) (m c);
+    next = λ j x y z a b e. rw (is x _ z e, add-one) (row_both g _ _ x y a b);
+  }
 
-  pub down_digit : DigitOf (plus f m) j g x → DigitOf f j g (each_word bit_xor x y)
-  down_digit e = row_cong g _ (λ c. member j (f c)) _
-      (λ c _ _. ap (λ (d : Bool). other d (carried j (f c) (m c))) (carry_digit j (f c) (m c)) ∙ other_twice (member j (f c)) (carried j (f c) (m c)))
-      (row_other g _ _ x y e carry)
+  pub carrying_down : (of : Row → Row → Row → Type 0) → ((x y z : Row) → of x y z → z ≡ y) → Carrying of g (plus f m) f m
+  carrying_down of is = record {
+    carry = λ j c. carried j (f c) (m c);
+    first = λ x e. unfold carried in e;
+    digit = λ j c. sym (digit_back j c);
+    next = λ j x y z a b e. unfold carried in rw (is x _ z e, add-one) (row_both g _ _ (each_word bit_xor x y) y (changed j x y a b) b);
+  }
+    where
+      digit_back : (j c : ℕ) → other (member j (f c + bit (m c))) (carried j (f c) (m c)) ≡ member j (f c)
+      digit_back j c = ap (λ (d : Bool). other d (carried j (f c) (m c))) (carry_digit j (f c) (m c)) ∙ other_twice (member j (f c)) (carried j (f c) (m c))
+
+      changed : (j : ℕ) (x y : Row) → DigitOf (plus f m) j g x → RowAt (λ c. carried j (f c) (m c)) g y → DigitOf f j g (each_word bit_xor x y)
+      changed j x y a b = row_cong g _ (λ c. member j (f c)) _ (λ c _ _. digit_back j c) (row_other g _ _ x y a b)
+
+-- a digit of the new numbers
+pub new_digit : (g : ℕ) (f h : ℕ → ℕ) (m : ℕ → Bool) (j : ℕ) (x y : Row) (of : Row → Row → Row → Type 0) (d : Carrying of g f h m)
+    → DigitOf f j g x → RowAt (d.carry j) g y → DigitOf h j g (each_word bit_xor x y)
+new_digit g f h m j x y of d e k = row_cong g _ (λ c. member j (h c)) _ (λ c _ _. sym (d.digit j c)) (row_other g _ _ x y e k)
 
 -- ---- where a number is 0
 

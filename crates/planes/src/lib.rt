@@ -5,7 +5,7 @@
 ghost use Rattle.std.specs.Prelude.{◌≡◌, Bool, ◌&&◌, ℕ, ◌<◌, eqb};
 ghost use Rattle.std.specs.Int.Bits.{bit_xor};
 ghost use Rattle.words.specs.FourWords.{RowAt, each_word};
-ghost use Rattle.planes.specs.Digits.{digit_row, digit_set, Stored, Raised, Lowered};
+ghost use Rattle.planes.specs.Digits.{Counted, Stored, Raised, Lowered};
 
 use words::Row;
 
@@ -16,72 +16,40 @@ const DIGITS: usize = 7;
 fn differ(x: Row, y: Row) -> Row
     ensures { result ≡ each_word bit_xor x y }
 {
-    Row {
-        a: x.a ^ y.a,
-        b: x.b ^ y.b,
-        c: x.c ^ y.c,
-        d: x.d ^ y.d,
-    }
+    words::each_word(x, y, |v, w| v ^ w)
 }
 
-// Digit j of a row of numbers.
-fn digit_at(planes: &[u64; 896], row: usize, j: usize) -> Row
-    requires { (row < 32) × (j < 7) }
-    ensures { result ≡ digit_row planes.now row j }
-{
-    let at = 4 * (7 * row + j);
-    Row {
-        a: planes[at],
-        b: planes[at + 1],
-        c: planes[at + 2],
-        d: planes[at + 3],
-    }
-}
-
-// It becomes x.
-fn put_digit(planes: &mut [u64; 896], row: usize, j: usize, x: Row)
-    requires { (row < 32) × (j < 7) }
-    ensures { planes.new ≡ digit_set planes.old row j x }
-{
-    let at = 4 * (7 * row + j);
-    planes[at] = x.a;
-    planes[at + 1] = x.b;
-    planes[at + 2] = x.c;
-    planes[at + 3] = x.d;
-}
-
-// Adds 1 to each number of the row that is marked: what is carried goes from digit to digit.
-pub fn raise(planes: &mut [u64; 896], row: usize, marked: Row)
-    ensures { Raised planes.old row marked planes.new }
+// Changes by 1 each number of the row that is marked. What goes on to the next digit goes on where the digit that `tells` picks is set: that before the change
+// or that after it.
+fn count<F: Fn(Row, Row) -> Row>(planes: &mut [u64; 896], row: usize, marked: Row, tells: F)
+    requires { F.IsAlwaysCallable tells }
+    ensures { Counted (λ x y z. F.post tells x y z) planes.old row marked planes.new }
 {
     if 32 <= row {
         return;
     }
     let mut carry = marked;
-    let mut j: usize = 0;
-    while j < DIGITS {
-        let digit = digit_at(planes, row, j);
-        put_digit(planes, row, j, differ(digit, carry));
-        carry = words::both(digit, carry);
-        j += 1;
+    for j in 0..DIGITS {
+        let at = DIGITS * row + j;
+        let before = words::row_at(planes, at);
+        let after = differ(before, carry);
+        words::put_row(planes, at, after);
+        carry = words::both(tells(before, after), carry);
     }
 }
 
-// Takes 1 from each number of the row that is marked: what is borrowed goes from digit to digit.
+// Adds 1 to each number of the row that is marked: it is carried on where a digit was set.
+pub fn raise(planes: &mut [u64; 896], row: usize, marked: Row)
+    ensures { Raised planes.old row marked planes.new }
+{
+    count(planes, row, marked, |before, _| before)
+}
+
+// Takes 1 from each number of the row that is marked: it is borrowed on where a digit becomes set.
 pub fn lower(planes: &mut [u64; 896], row: usize, marked: Row)
     ensures { Lowered planes.old row marked planes.new }
 {
-    if 32 <= row {
-        return;
-    }
-    let mut borrow = marked;
-    let mut j: usize = 0;
-    while j < DIGITS {
-        let digit = differ(digit_at(planes, row, j), borrow);
-        put_digit(planes, row, j, digit);
-        borrow = words::both(digit, borrow);
-        j += 1;
-    }
+    count(planes, row, marked, |_, after| after)
 }
 
 // Those of a row whose number is 0.
@@ -92,10 +60,8 @@ pub fn unbroken(planes: &[u64; 896], row: usize, of: Row) -> Row
         return of;
     }
     let mut left = of;
-    let mut j: usize = 0;
-    while j < DIGITS {
-        left = words::without(left, digit_at(planes, row, j));
-        j += 1;
+    for j in 0..DIGITS {
+        left = words::without(left, words::row_at(planes, DIGITS * row + j));
     }
     left
 }

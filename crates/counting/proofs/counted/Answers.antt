@@ -13,21 +13,20 @@ returns-then-grants-gt64 c = rw (lt-ltb 64 _ c.if-grants-gt64.true)
 pub loop-k-init : goal.loop-k-init
 loop-k-init c =
     let a = c.args in
-    (omega arith, omega arith, bits_none (counts_in a.ledger.now a.n a.grants a.label.now a.day) _ (λ k l. rw (le-ltb k a.grants l)))
+    (omega arith, bits_none (counts_in a.ledger.now a.n a.grants a.label.now a.day) _ (λ k l. rw (le-ltb k a.grants l)))
 
 pub loop-k-preserved : goal.loop-k-preserved
 loop-k-preserved c =
     let a = c.args in
     let i = c.loop-k.invariant in
     let below : c.loop-k.k - 1 < a.grants = omega arith in (
-      omega arith,
-      i.1,
-      bits_more (counts_in a.ledger.now a.n a.grants a.label.now a.day) c.loop-k.k _ _ c.loop-k-test.true (omega arith) i.2
-          (c.counts-counts.ensures ∙ rw (lt-ltb (c.loop-k.k - 1) a.grants below)),
+      i.0,
+      bits_more (counts_in a.ledger.now a.n a.grants a.label.now a.day) c.loop-k.k _ _ c.loop-k-test.true (omega arith) i.1
+          (c.counts.ensures ∙ rw (lt-ltb (c.loop-k.k - 1) a.grants below)),
     )
 
 pub returns : goal.returns
 unfolding counted_in
 returns c =
     let k : c.loop-k.k ≡ 0 = omega arith in
-    rw (le-ltb 64 _ c.loop-k.invariant.1) (rw k at c.loop-k.invariant.2)
+    rw (le-ltb 64 _ c.loop-k.invariant.0) (rw k at c.loop-k.invariant.1)

@@ -6,7 +6,4 @@ use Rattle.counting.specs.Counted.{counts_in}
 use Rattle.counting.proofs.counted.Given as goal
 
 abbrev pub invariant-loop-k : goal.invariant-loop-k
-invariant-loop-k l = (l.k ≤ l.grants) × (l.grants ≤ 64) × (l.counted ≡ packed (counts_in l.ledger l.n l.grants l.label l.day) l.k (64 - l.k))
-
-abbrev pub decreases-loop-k : goal.decreases-loop-k
-decreases-loop-k l = l.k
+invariant-loop-k l = (l.grants ≤ 64) × (l.counted ≡ packed (counts_in l.ledger l.n l.grants l.label l.day) l.k (64 - l.k))

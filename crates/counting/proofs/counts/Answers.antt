@@ -3,10 +3,10 @@ use mathlib.Core.Path.{sym, ◌∙◌}
 use Rattle.model.specs.Grants.{counts_under}
 use Rattle.counting.proofs.counts.Goals as goal
 
-pub returns-then-not-current : goal.returns-then-not-current
+pub returns-then-on_day : goal.returns-then-on_day
 unfolding counts_under
-returns-then-not-current c = simp (sym c.on_day-current.ensures ∙ c.if-not-current.true)
+returns-then-on_day c = simp (sym c.on_day.ensures ∙ c.if-on_day.true) c.heard.ensures
 
-pub returns : goal.returns
+pub returns-else-on_day : goal.returns-else-on_day
 unfolding counts_under
-returns c = simp (sym c.on_day-current.ensures ∙ c.if-not-current.false) c.heard.ensures
+returns-else-on_day c = let e = sym c.on_day.ensures ∙ c.if-on_day.false in c.if-on_day.false ∙ rw e

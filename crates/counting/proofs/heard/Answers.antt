@@ -7,22 +7,22 @@ use Rattle.words.proofs.Searches.{clear_none}
 use Rattle.counting.specs.Counted.{bars_at}
 use Rattle.counting.proofs.Few.{heard_clear, heard_rest}
 use Rattle.counting.proofs.heard.Goals as goal
-use Rattle.counting.proofs.heard.Goals.{Else-not-first}
+use Rattle.counting.proofs.heard.Goals.{Else-not-rows_clear}
 
 -- the first row is clear
-first : (c : Else-not-first) → let a = c.args in ClearTo (job_of a.n) (bars_at a.ledger.now a.label.now a.k) 1
-first c = c.rows_clear-first.ensures.clear (c.if-not-first.false) (clear_none _ _)
+first : (c : Else-not-rows_clear) → let a = c.args in ClearTo (job_of a.n) (bars_at a.ledger.now a.label.now a.k) 1
+first c = c.rows_clear.ensures.clear (c.if-not-rows_clear.false) (clear_none _ _)
 
 pub returns-then-n-le8 : goal.returns-then-n-le8
 returns-then-n-le8 c =
     let a = c.args in
     let none : min a.n 12 - 8 ≡ 0 = omega arith in
-    heard_clear a.ledger.now a.k a.label.now a.n 1 (sym (ap (λ (x : ℕ). 2 ^ x) none)) (first (goal.at.returns-then-n-le8 c).Else-not-first)
+    heard_clear a.ledger.now a.k a.label.now a.n 1 (sym (ap (λ (x : ℕ). 2 ^ x) none)) (first (goal.at.returns-then-n-le8 c).Else-not-rows_clear)
 
-pub rows_clear-requires : goal.rows_clear-requires
-rows_clear-requires c = omega (arith, c.row_count.ensures, rows_few c.names_needed-names.result)
+pub rows_clear-requires-2 : goal.rows_clear-requires-2
+rows_clear-requires-2 c = omega (arith, c.row_count.ensures, rows_few c.names_needed-names.result)
 
 pub returns : goal.returns
 returns c =
     let a = c.args in
-    heard_rest a.ledger.now a.k a.label.now a.n _ _ _ c.row_count.ensures (first (goal.at.returns c).Else-not-first) c.names_needed-names.ensures c.rows_clear.ensures
+    heard_rest a.ledger.now a.k a.label.now a.n _ _ _ c.row_count.ensures (first (goal.at.returns c).Else-not-rows_clear) c.names_needed-names.ensures c.rows_clear-2.ensures

@@ -30,13 +30,13 @@ fn less_word(marks: &[u64], i: u64, w: u64) -> u64
     if i < 6 {
         let having = words::name_word(i as u8, w);
         let up: u64 = 1 << i;
-        return (marks[place] << up) & having;
-    }
-    if (w >> (i - 6)) % 2 == 1 {
+        (marks[place] << up) & having
+    } else if (w >> (i - 6)) % 2 == 1 {
         let down: usize = 1 << (i - 6);
-        return marks[place - down];
+        marks[place - down]
+    } else {
+        0
     }
-    0
 }
 
 // The minimal coalitions of word w. A term is monotone in the coalition, so that one member less is all there is to try.
@@ -44,15 +44,12 @@ fn minimal_word(marks: &[u64], n: u64, w: u64) -> u64
     requires { (n ≤ 12) × (w < length marks.now) }
     ensures { result ≡ packed (irredundant n (marked marks.now)) (64 * w) 64 }
 {
-    let place = w as usize;
-    let mut found = marks[place];
-    let mut i: u64 = 0;
-    while i < n {
+    let mut found = marks[w as usize];
+    for i in 0..n {
         if found == 0 {
             return 0;
         }
-        found = found & !less_word(marks, i, w);
-        i += 1;
+        found &= !less_word(marks, i, w);
     }
     found
 }
@@ -62,8 +59,7 @@ fn put(buffer: &mut [u8], x: usize)
     requires { (2 ≤ length buffer.old) × (x < 65536) }
     ensures { FrontWritten (big_endian x) buffer.old buffer.new 2 }
 {
-    buffer[0] = (x / 256) as u8;
-    buffer[1] = (x % 256) as u8;
+    buffer[..2].copy_from_slice(&(x as u16).to_be_bytes());
 }
 
 // Writes coalition first + j for each bit j of the word, ascending. The result is the number of bytes.
@@ -74,6 +70,7 @@ fn list_word(word: u64, first: usize, buffer: &mut [u8]) -> usize
     let mut rest = word;
     let mut c = first;
     let mut at: usize = 0;
+    // Kept: a `for` over the 64 places would step over the clear bits too, and need a test: it is no plainer.
     while rest != 0 {
         let skip = words::lowest(rest);
         rest = rest >> skip >> 1;
@@ -94,11 +91,9 @@ fn list_side(marks: &[u64], n: u64, buffer: &mut [u8]) -> usize
 {
     let count = words::word_count(n);
     let mut at: usize = 2;
-    let mut w: u64 = 0;
-    while w < count {
+    for w in 0..count {
         let word = words::low_mask(n, w) & minimal_word(marks, n, w);
         at += list_word(word, 64 * (w as usize), &mut buffer[at..]);
-        w += 1;
     }
     put(buffer, (at - 2) / 2);
     at

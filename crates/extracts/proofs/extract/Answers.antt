@@ -1,6 +1,6 @@
 -- The refusals in their order, and then the table.
-use Rattle.std.proofs.Common.{ℕ, ◌≡◌, true, List, length, arith, sym, ap, ◌∙◌}
-use lib.Seq.{paste}
+use Rattle.std.proofs.Common.{ℕ, ◌≡◌, true, length, arith, take, drop, replicate, rules, sym, ap, ◌∙◌}
+use Rattle.std.proofs.lemmas.List.{take-replicate, drop-replicate}
 use Rattle.model.specs.Dates.{real_date}
 use Rattle.model.specs.Grants.{under}
 use Rattle.model.specs.Questions.{sound_under}
@@ -9,6 +9,7 @@ use Rattle.model.proofs.Table.{table_cong}
 use Rattle.ledgers.proofs.Accepted as ledgers
 use Rattle.ledgers.proofs.Accepted.{AcceptedBook, accepted_book}
 use Rattle.soundness.proofs.Accepted.{sound-counted}
+use Rattle.extracts.specs.Halves.{blank}
 use Rattle.extracts.proofs.Outcomes.{halves_table, day_refused, size_refused, book_refused, table-written}
 use Rattle.extracts.proofs.extract.Goals as goal
 use Rattle.extracts.proofs.extract.Goals.{Else-buffer-ne1024, In-Accepted, After-mark_sound}
@@ -39,7 +40,15 @@ returns-in_default c =
 book_of : (c : In-Accepted) → AcceptedBook c.args.ledger.now c.args.label.now c.in-Accepted.names c.in-Accepted.grants
 book_of c = accepted_book _ _ c.args.day _ _ (sym (c.read_book-book.ensures c.args.day) ∙ c.in-Accepted.is)
 
--- both halves are copied, the see side first; they have the marks of the sound coalitions
+-- both halves are 00 before they are marked
+pub mark_sound-requires : goal.mark_sound-requires
+mark_sound-requires c =
+    let filled : c.fill.new.self ≡ replicate (length c.args.buffer.now) 0 = search rules in
+    let size : length c.args.buffer.now ≡ 1024 = omega arith in
+    let clear : c.fill.new.self ≡ blank 1024 = filled ∙ ap blank size in
+    (c.split_at_mut-see.ensures.front ∙ ap (take 512) clear ∙ take-replicate 512 1024 0 (omega arith), c.split_at_mut-see.ensures.back ∙ ap (drop 512) clear ∙ drop-replicate 512 1024 0)
+
+-- they are the table: they have the marks of the sound coalitions
 pub returns : goal.returns
 returns c =
     let a = c.args in
@@ -47,7 +56,6 @@ returns c =
     let b = book_of (goal.at.returns c).In-Accepted in
     let n = c.in-Accepted.names in
     table-written a.ledger.now a.label.now a.day a.buffer.now (real s) (fits s) b.book (under n b.L a.day) _ (b.is a.day)
-    (c.copy_half-2.ensures ∙ ap (λ (x : List ℕ). paste x 512 c.mark_sound.new.change 512) c.copy_half.ensures
-    ∙ halves_table _ _ _ _ a.buffer.now (fits s) c.mark_sound.ensures
+    (halves_table c.mark_sound.ensures
     ∙ table_cong _ _ _ (λ s d _. sound-counted _ _ _ _ _ _ _ b.L b.of b.label_is c.counted-counted.ensures s d)
     ∙ ap (λ (m : ℕ). table m (sound_under b.book (under n b.L a.day))) b.of.names)

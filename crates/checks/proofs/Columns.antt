@@ -114,20 +114,20 @@ columns m k l h few bytes = record {
   runs_most = λ j. omega (arith, runs_most k l (omega arith) bytes j);
 }
 
--- ---- one row more, that which ends at place `at`
-module _ (k at : ℕ) (l sums runs : List ℕ) (h : 16 ≤ at) (s : sums ≡ sums_of k (drop at l)) (r : runs ≡ runs_of k (drop at l)) where
-  back : drop 16 (drop (at - 16) l) ≡ drop at l
+-- ---- one row more, the one before row j
+module _ (k j : ℕ) (l sums runs : List ℕ) (h : 1 ≤ j) (s : sums ≡ sums_of k (drop (16 * j) l)) (r : runs ≡ runs_of k (drop (16 * j) l)) where
+  back : drop 16 (drop (16 * (j - 1)) l) ≡ drop (16 * j) l
   back =
-      let e : at - 16 + 16 ≡ at = omega arith in
-      drop-drop 16 (at - 16) l ∙ ap (λ (i : ℕ). drop i l) e
+      let e : 16 * (j - 1) + 16 ≡ 16 * j = omega arith in
+      drop-drop 16 (16 * (j - 1)) l ∙ ap (λ (i : ℕ). drop i l) e
 
-  pub sums_more : added 16 sums (take (at - 16 + 16 - (at - 16)) (drop (at - 16) l)) ≡ sums_of (suc k) (drop (at - 16) l)
+  pub sums_more : added 16 sums (take (16 * (j - 1) + 16 - 16 * (j - 1)) (drop (16 * (j - 1)) l)) ≡ sums_of (suc k) (drop (16 * (j - 1)) l)
   unfolding sums_of
   sums_more =
-      let width : at - 16 + 16 - (at - 16) ≡ 16 = omega arith in
+      let width : 16 * (j - 1) + 16 - 16 * (j - 1) ≡ 16 = omega arith in
       rw (width, added-take, back, s)
 
-  pub runs_more : added 16 runs sums ≡ runs_of (suc k) (drop (at - 16) l)
+  pub runs_more : added 16 runs sums ≡ runs_of (suc k) (drop (16 * (j - 1)) l)
   unfolding runs_of
   runs_more = rw (back, s, r)
 

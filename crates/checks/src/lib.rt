@@ -12,13 +12,11 @@ fn add_row(sums: &mut [u16; 16], runs: &mut [u16; 16], row: &[u8])
     requires { Columns 15 sums.old runs.old × (length row.now ≡ 16) }
     ensures { (sums.new ≡ added 16 sums.old row.now) × (runs.new ≡ added 16 runs.old sums.old) }
 {
-    let mut j: usize = 0;
-    while j < 16 {
+    for j in 0..16 {
         let sum = sums[j];
         let more = sum + row[j] as u16;
         sums[j] = more;
         runs[j] += sum;
-        j += 1;
     }
 }
 
@@ -30,9 +28,7 @@ fn columns_weight(sums: &[u16; 16], runs: &[u16; 16]) -> u32
 {
     let mut run: u32 = 0;
     let mut sum: u32 = 0;
-    let mut column: usize = 16;
-    while 0 < column {
-        column -= 1;
+    for column in (0..16).rev() {
         run += sums[column] as u32;
         sum += run + 16 * runs[column] as u32;
     }
@@ -47,10 +43,8 @@ fn front_weight(block: &[u8]) -> u32
 {
     let mut sums = [0u16; 16];
     let mut runs = [0u16; 16];
-    let mut at: usize = 256;
-    while 0 < at {
-        at -= 16;
-        add_row(&mut sums, &mut runs, &block[at..at + 16]);
+    for row in (0..16).rev() {
+        add_row(&mut sums, &mut runs, &block[16 * row..16 * row + 16]);
     }
     columns_weight(&sums, &runs)
 }
@@ -61,10 +55,8 @@ fn rest_weight(rest: &[u8]) -> u32
     ensures { result ≡ weighted 256 rest.now }
 {
     let mut sum: u32 = 0;
-    let mut i: usize = 0;
-    while i < 254 {
-        sum += (i as u32 + 257) * rest[i] as u32;
-        i += 1;
+    for (i, b) in rest.iter().enumerate() {
+        sum += (i as u32 + 257) * *b as u32;
     }
     sum
 }
@@ -76,8 +68,7 @@ fn weight(block: &[u8]) -> u32
 {
     let front = front_weight(block);
     let rest = &block[256..510];
-    let unused = fields::filler(rest);
-    if unused {
+    if fields::filler(rest) {
         return front;
     }
     front + rest_weight(rest)
@@ -87,10 +78,5 @@ fn weight(block: &[u8]) -> u32
 pub fn block_check(block: &[u8]) -> bool
     ensures { result ≡ whole_checked block.now }
 {
-    if block.len() != 512 {
-        return false;
-    }
-    let sum = weight(block);
-    let check = fields::two_bytes(block, 510) as u32;
-    check == sum % 65521
+    block.len() == 512 && fields::two_bytes(block, 510) as u32 == weight(block) % 65521
 }

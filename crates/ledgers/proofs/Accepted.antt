@@ -1,47 +1,41 @@
--- What a caller of the ledger reader knows from its answer. Assumes nothing.
-use Prim.Native.Nat.{ℕ, ◌+◌}
-use native.Mathlib.Omega.{arith}
+-- What a caller of the ledger reader knows from its result. Assumes nothing.
+use Rattle.std.specs.Prelude.{ℕ, ◌+◌, List, length, Result, Ok, Err}
 use mathlib.Core.Path.{◌≡◌, refl, sym, ap, ◌∙◌}
-use mathlib.Core.List.{List}
-use lib.ListN.{length}
 use Rattle.model.specs.Readings.{Reading, accepted, refused, and_then, from}
 use Rattle.model.specs.Terms.{Term, read_term}
 use Rattle.model.specs.Grants.{under, read_under}
 use Rattle.model.specs.Ledgers.{Ledger, read_ledger, Book, read_book}
 use Rattle.model.proofs.Stands.{LedgerStands, ledger_stands}
-use Rattle.ledgers.specs.Readings.{ledger_reading, book_reading, ledger_refusal, LedgerOf}
-use Rattle.ledgers.specs.declared.LedgerReading.{LedgerReading}
-use Rattle.ledgers.specs.declared.LedgerReading.TheVariants.{Accepted, Refused}
+use Rattle.refusals.specs.declared.Refusal.{Refusal}
+use Rattle.refusals.specs.Numbers.{refusal_number}
+use Rattle.refusals.specs.Results.{reading_of, done}
+use Rattle.ledgers.specs.declared.Sizes.{Sizes}
+use Rattle.ledgers.specs.Readings.{sizes, book_sizes, LedgerOf}
 
--- An accepted list of bytes is a ledger of n names and k grants, and each grant's terms stand in its block: no second reading is needed.
-pub record AcceptedLedger (bytes : List ℕ) (n k : ℕ) : Type 0 where
+-- An accepted list of bytes is a ledger of these sizes, and each grant's terms stand in its block: no second reading is needed.
+pub record AcceptedLedger (bytes : List ℕ) (s : Sizes) : Type 0 where
   pub ledger : Ledger
-  pub is : read_ledger bytes ≡ accepted ledger
-  pub names : ledger.names ≡ n
-  pub count : length ledger.grants ≡ k
+  pub of : LedgerOf bytes s.names s.grants ledger
   pub stands : LedgerStands bytes ledger
 
-pub accepted_ledger : (bytes : List ℕ) (n k : ℕ) → ledger_reading (read_ledger bytes) ≡ Accepted n k → AcceptedLedger bytes n k
-accepted_ledger bytes n k e = by (read_ledger bytes) refl e
-  where
-    by : (a : Reading Ledger) → read_ledger bytes ≡ a → ledger_reading a ≡ Accepted n k → AcceptedLedger bytes n k
-    by (accepted l) f g = record { ledger = l; is = f; names = cc; count = cc; stands = ledger_stands bytes l f }
-    by (refused r) f g = absurd (let z : ◌≡◌ {A = ℕ} 0 1 = cc in omega arith)
+module _ (bytes : List ℕ) (r : Result Sizes Refusal) (e : reading_of r ≡ sizes (read_ledger bytes)) where
+  pub accepted_ledger : (s : Sizes) → r ≡ Ok s → AcceptedLedger bytes s
+  accepted_ledger s h = by (read_ledger bytes) refl (sym (ap reading_of h) ∙ e)
+    where
+      by : (a : Reading Ledger) → read_ledger bytes ≡ a → accepted s ≡ sizes a → AcceptedLedger bytes s
+      by (accepted l) f g =
+          let names : s.names ≡ l.names = cc in
+          let count : s.grants ≡ length l.grants = cc in
+          record { ledger = l; of = record { is = f; names = names; count = count }; stands = ledger_stands bytes l f }
+      by (refused k) f g = cc
 
--- A refusal that the code hands back is document 01's.
-refused_ledger : (bytes : List ℕ) (r : ℕ) → ledger_reading (read_ledger bytes) ≡ Refused r → read_ledger bytes ≡ refused r
-refused_ledger bytes r e = by (read_ledger bytes) e
-  where
-    by : (a : Reading Ledger) → ledger_reading a ≡ Refused r → a ≡ refused r
-    by (accepted l) f = cc
-    by (refused k) f = cc
-
--- the number that the code hands on is the reader's refusal
-pub ledger_refused : (bytes : List ℕ) (s : LedgerReading) (k r : ℕ) → s ≡ ledger_reading (read_ledger bytes) → s ≡ Refused k → r ≡ ledger_refusal s → read_ledger bytes ≡ refused r
-ledger_refused bytes s k r a b e = refused_ledger bytes k (sym a ∙ b) ∙ ap refused (sym (e ∙ ap ledger_refusal b))
-
-pub ledger_of_lem : (bytes : List ℕ) (n grants : ℕ) (a : AcceptedLedger bytes n grants) → LedgerOf bytes n grants a.ledger
-ledger_of_lem bytes n grants a = record { is = a.is; names = sym a.names; count = sym a.count }
+  -- a refusal that the code hands back is document 01's
+  pub refused_ledger : (why : Refusal) → r ≡ Err why → read_ledger bytes ≡ refused (refusal_number why)
+  refused_ledger why h = by (read_ledger bytes) (sym (ap reading_of h) ∙ e)
+    where
+      by : (a : Reading Ledger) → refused (refusal_number why) ≡ sizes a → a ≡ refused (refusal_number why)
+      by (accepted l) f = cc
+      by (refused k) f = cc
 
 -- ---- a ledger and a label
 
@@ -58,43 +52,54 @@ module _ (ledger label : List ℕ) where
   unfolding read_book
   book_is n k l L of e day = rw (of.is, ← of.names, e)
 
-  pub accepted_book : (day n k : ℕ) → book_reading (read_book ledger label day) ≡ Accepted n k → AcceptedBook ledger label n k
-  unfolding read_book
-  accepted_book day n k e = on (read_ledger ledger) refl e
-    where
-      on_label : (l : Ledger) → read_ledger ledger ≡ accepted l → (r : Reading Term) → read_term l.names label ≡ r
-          → book_reading (and_then (and_then (from 40 r) (λ L. accepted (under l.names L day))) (λ u. accepted (record { ledger = l; asked = u }))) ≡ Accepted n k → AcceptedBook ledger label n k
-      on_label l is (accepted L) f g =
-          let names : n ≡ l.names = cc in
-          let of : LedgerOf ledger n k l = record { is = is; names = names; count = cc } in
-          let term : read_term n label ≡ accepted L = rw names f in
-          record { book = l; L = L; of = of; label_is = term; is = book_is n k l L of term }
-      on_label l is (refused r) f g = absurd (let z : ◌≡◌ {A = ℕ} 0 1 = cc in omega arith)
+  -- both were read with this result
+  module _ (day : ℕ) (r : Result Sizes Refusal) (e : reading_of r ≡ book_sizes (read_book ledger label day)) where
+    pub accepted_book : (s : Sizes) → r ≡ Ok s → AcceptedBook ledger label s.names s.grants
+    unfolding read_book
+    accepted_book s h = on (read_ledger ledger) refl (sym (ap reading_of h) ∙ e)
+      where
+        on_label : (l : Ledger) → read_ledger ledger ≡ accepted l → (a : Reading Term) → read_term l.names label ≡ a
+            → accepted s ≡ book_sizes (and_then (and_then (from 40 a) (λ L. accepted (under l.names L day))) (λ u. accepted (record { ledger = l; asked = u }))) → AcceptedBook ledger label s.names s.grants
+        on_label l is (accepted L) f g =
+            let names : s.names ≡ l.names = cc in
+            let count : s.grants ≡ length l.grants = cc in
+            let of : LedgerOf ledger s.names s.grants l = record { is = is; names = names; count = count } in
+            let term : read_term s.names label ≡ accepted L = rw names f in
+            record { book = l; L = L; of = of; label_is = term; is = book_is s.names s.grants l L of term }
+        on_label l is (refused k) f g = cc
 
-      on : (r : Reading Ledger) → read_ledger ledger ≡ r
-          → book_reading (and_then r (λ l. and_then (read_under l.names label day) (λ u. accepted (record { ledger = l; asked = u })))) ≡ Accepted n k → AcceptedBook ledger label n k
-      on (accepted l) f g = on_label l f (read_term l.names label) refl g
-      on (refused r) f g = absurd (let z : ◌≡◌ {A = ℕ} 0 1 = cc in omega arith)
+        on : (a : Reading Ledger) → read_ledger ledger ≡ a
+            → accepted s ≡ book_sizes (and_then a (λ l. and_then (read_under l.names label day) (λ u. accepted (record { ledger = l; asked = u })))) → AcceptedBook ledger label s.names s.grants
+        on (accepted l) f g = on_label l f (read_term l.names label) refl g
+        on (refused k) f g = cc
 
-  refused_book : (day r : ℕ) → book_reading (read_book ledger label day) ≡ Refused r → read_book ledger label day ≡ refused r
-  refused_book day r e = by (read_book ledger label day) e
-    where
-      by : (a : Reading Book) → book_reading a ≡ Refused r → a ≡ refused r
-      by (accepted b) g = cc
-      by (refused k) g = cc
-
-  -- the number that the code hands on is the reader's refusal
-  pub book_refused : (day : ℕ) (s : LedgerReading) (k r : ℕ) → s ≡ book_reading (read_book ledger label day) → s ≡ Refused k → r ≡ ledger_refusal s → read_book ledger label day ≡ refused r
-  book_refused day s k r a b e = refused_book day k (sym a ∙ b) ∙ ap refused (sym (e ∙ ap ledger_refusal b))
+    pub refused_book : (why : Refusal) → r ≡ Err why → read_book ledger label day ≡ refused (refusal_number why)
+    refused_book why h = by (read_book ledger label day) (sym (ap reading_of h) ∙ e)
+      where
+        by : (a : Reading Book) → refused (refusal_number why) ≡ book_sizes a → a ≡ refused (refusal_number why)
+        by (accepted b) f = cc
+        by (refused k) f = cc
 
   -- ---- what the code that reads both gives
-  pub book_ledger : (day : ℕ) (s : LedgerReading) (r : ℕ) → s ≡ ledger_reading (read_ledger ledger) → s ≡ Refused r → s ≡ book_reading (read_book ledger label day)
+  pub book_ledger : (day k : ℕ) → read_ledger ledger ≡ refused k → refused k ≡ book_sizes (read_book ledger label day)
   unfolding read_book
-  book_ledger day s r a b = b ∙ rw (refused_ledger ledger r (sym a ∙ b))
+  book_ledger day k e = rw e
 
-  pub book_label : (day n k r : ℕ) → AcceptedLedger ledger n k → read_term n label ≡ refused r → Refused (40 + r) ≡ book_reading (read_book ledger label day)
-  unfolding read_book
-  book_label day n k r l e = rw (l.is, l.names, e)
+  module _ (day : ℕ) (s : Sizes) (l : AcceptedLedger ledger s) where
+    pub book_label : (k : ℕ) → refused k ≡ from 40 (done (read_term s.names label)) → refused k ≡ book_sizes (read_book ledger label day)
+    unfolding read_book
+    book_label k e = rw l.of.is (by (read_term l.ledger.names label) (rw l.of.names at e))
+      where
+        by : (a : Reading Term) → refused k ≡ from 40 (done a)
+            → refused k ≡ book_sizes (and_then (and_then (from 40 a) (λ L. accepted (under l.ledger.names L day))) (λ u. accepted (record { ledger = l.ledger; asked = u })))
+        by (accepted L) f = cc
+        by (refused j) f = let same : k ≡ 40 + j = cc in rw same
 
-  pub book_both : (day n k : ℕ) (L : Term) → AcceptedLedger ledger n k → read_term n label ≡ accepted L → Accepted n k ≡ book_reading (read_book ledger label day)
-  book_both day n k L l e = let of = ledger_of_lem ledger n k l in rw (book_is n k l.ledger L of e day, ← of.names, ← of.count)
+    pub book_both : (u : Unit {0}) → accepted u ≡ from 40 (done (read_term s.names label)) → accepted s ≡ book_sizes (read_book ledger label day)
+    unfolding read_book
+    book_both u e = rw l.of.is (by (read_term l.ledger.names label) (rw l.of.names at e))
+      where
+        by : (a : Reading Term) → accepted u ≡ from 40 (done a)
+            → accepted s ≡ book_sizes (and_then (and_then (from 40 a) (λ L. accepted (under l.ledger.names L day))) (λ u. accepted (record { ledger = l.ledger; asked = u })))
+        by (accepted L) f = rw (← l.of.names, ← l.of.count)
+        by (refused j) f = cc

@@ -1,101 +1,113 @@
--- Laws of reading grants and ledgers, as the readers' answers: one term, one grant and one test after another. Assumes nothing.
+-- Laws of reading grants and ledgers, as the readers' results: one term, one grant and one test after another. Assumes nothing.
 use Prim.Native.Nat.{ℕ, suc, ◌+◌, ◌-◌, ◌*◌, ◌/◌, ◌≤◌, ◌<◌}
 use native.Mathlib.Omega.{arith}
-use mathlib.Core.Path.{◌≡◌, refl, sym, ap, ◌∙◌}
-use mathlib.Core.Bool.{Bool, true, false, cond, ◌&&◌}
+use mathlib.Core.Path.{◌≡◌, refl, ◌∙◌}
+use mathlib.Core.Bool.{Bool, true, false, ◌&&◌}
 use mathlib.Core.List.{List, [], ◌∷◌}
 use lib.ListN.{length, drop, drop_of_length-le}
 use lib.Seq.{drop-cons}
-use Rattle.model.specs.Bytes.{field}
+use Rattle.model.specs.Bytes.{byte, field}
 use Rattle.model.specs.Readings.{Reading, accepted, refused, and_then, require, refused_as}
 use Rattle.model.specs.Terms.{Term, read_term}
 use Rattle.model.specs.Dates.{date_or_none, in_order}
 use Rattle.model.specs.Grants.{Grant}
-use Rattle.model.specs.Ledgers.{grant_blocks, grant_form, p_bytes, q_bytes, label_bytes, first_day, last_day, read_terms, read_days, read_grant, read_grants}
+use Rattle.model.specs.Ledgers.{checked, header, grant_blocks, all_checked, header_form, grant_form, p_bytes, q_bytes, label_bytes, first_day, last_day, read_terms, read_days, read_grant, read_grants, ledger_length, read_ledger}
 use Rattle.model.proofs.Blocks.{length-grant_blocks, get_or-grant_blocks}
 use Rattle.model.proofs.Stands.{read_grants_lem}
-use Rattle.terms.specs.Readings.{term_reading}
-use Rattle.terms.specs.declared.TermReading.{TermReading}
-use Rattle.terms.specs.declared.TermReading.TheVariants.{Accepted as AcceptedTerm, Refused as RefusedTerm}
-use Rattle.ledgers.specs.Readings.{grant_reading, days_reading, ledger_reading}
-use Rattle.ledgers.specs.declared.GrantReading.{GrantReading}
-use Rattle.ledgers.specs.declared.GrantReading.TheVariants.{Accepted, Refused}
-use Rattle.ledgers.specs.declared.LedgerReading.{LedgerReading}
-use Rattle.ledgers.specs.declared.LedgerReading.TheVariants.{Accepted as AcceptedLedger, Refused as RefusedLedger}
+use Rattle.refusals.specs.Results.{done}
+use Rattle.ledgers.specs.Readings.{days_reading, sizes}
 
--- what follows an accepted term; a refused one is refusal 14
-abbrev pub on_term : TermReading → GrantReading → GrantReading
-on_term AcceptedTerm next = next
-on_term (RefusedTerm r) next = Refused 14
+-- go on where something was done; a refusal stays the answer
+abbrev pub then : {A : Type 0} → Reading (Unit {0}) → Reading A → Reading A
+then r next = and_then r (λ u. next)
 
--- of a block that has its form, the answer goes by the answers for its three terms, in their order, and for its days
-pub grant_answer : (n : ℕ) (block : List ℕ) → grant_form block ≡ true
-    → grant_reading (read_grant n block)
-    ≡ on_term (term_reading (read_term n (p_bytes block))) (on_term (term_reading (read_term n (q_bytes block))) (on_term (term_reading (read_term n (label_bytes block))) (days_reading (first_day block) (last_day block))))
-unfolding read_grant read_terms read_days days_reading
-grant_answer n block f = rw f (three (read_term n (p_bytes block)) (read_term n (q_bytes block)) (read_term n (label_bytes block)))
-  where
-    days : (a b : Bool) (g : Grant) → grant_reading (require a 84 (require b 85 (accepted g))) ≡ cond a (cond b Accepted (Refused 85)) (Refused 84)
-    days true true g = refl
-    days true false g = refl
-    days false b g = refl
+-- a term of a grant, any refusal of it being 14
+abbrev pub read_at : ℕ → List ℕ → Reading (Unit {0})
+read_at n bytes = done (refused_as 14 (read_term n bytes))
 
-    three : (p q d : Reading Term)
-        → grant_reading {A = Grant} (and_then (refused_as 14 (and_then p (λ a. and_then q (λ b. and_then d (λ c. accepted (record { p = a; q = b; label = c; first = first_day block; last = last_day block })))))) read_days)
-        ≡ on_term (term_reading p) (on_term (term_reading q) (on_term (term_reading d) (days_reading (first_day block) (last_day block))))
-    three (accepted a) (accepted b) (accepted c) = days (date_or_none (first_day block) && date_or_none (last_day block)) (in_order (first_day block) (last_day block)) _
-    three (accepted a) (accepted b) (refused r) = refl
-    three (accepted a) (refused r) d = refl
-    three (refused r) q d = refl
+module _ (n : ℕ) (block : List ℕ) (form : grant_form block ≡ true) where
+  -- of a block that has its form, the answer goes by its three terms, in their order, and by its days
+  answer : done (read_grant n block)
+      ≡ then (read_at n (p_bytes block)) (then (read_at n (q_bytes block)) (then (read_at n (label_bytes block)) (days_reading (first_day block) (last_day block))))
+  unfolding read_grant read_terms read_days days_reading
+  answer = rw form (three (read_term n (p_bytes block)) (read_term n (q_bytes block)) (read_term n (label_bytes block)))
+    where
+      days : (a b : Bool) (g : Grant) → done (require a 84 (require b 85 (accepted g))) ≡ require a 84 (require b 85 (accepted tt))
+      days true true g = refl
+      days true false g = refl
+      days false b g = refl
 
--- what follows an accepted grant; a refusal stays the answer
-abbrev pub on_grant : GrantReading → GrantReading → GrantReading
-on_grant Accepted next = next
-on_grant (Refused r) next = Refused r
+      three : (p q d : Reading Term)
+          → done {A = Grant} (and_then (refused_as 14 (and_then p (λ a. and_then q (λ b. and_then d (λ c. accepted (record { p = a; q = b; label = c; first = first_day block; last = last_day block })))))) read_days)
+          ≡ then (done (refused_as 14 p)) (then (done (refused_as 14 q)) (then (done (refused_as 14 d)) (days_reading (first_day block) (last_day block))))
+      three (accepted a) (accepted b) (accepted c) = days (date_or_none (first_day block) && date_or_none (last_day block)) (in_order (first_day block) (last_day block)) _
+      three (accepted a) (accepted b) (refused r) = refl
+      three (accepted a) (refused r) d = refl
+      three (refused r) q d = refl
 
-grants_cons : (n : ℕ) (b : List ℕ) (bs : List (List ℕ)) → grant_reading (read_grants n (b ∷ bs)) ≡ on_grant (grant_reading (read_grant n b)) (grant_reading (read_grants n bs))
+  pub grant_p : (k : ℕ) → refused k ≡ read_at n (p_bytes block) → refused k ≡ done (read_grant n block)
+  grant_p k e = rw (answer, ← e)
+
+  pub grant_q : (k : ℕ) (u : Unit {0}) → accepted u ≡ read_at n (p_bytes block) → refused k ≡ read_at n (q_bytes block) → refused k ≡ done (read_grant n block)
+  grant_q k u p e = rw (answer, ← p, ← e)
+
+  pub grant_label : (k : ℕ) (u v : Unit {0}) → accepted u ≡ read_at n (p_bytes block) → accepted v ≡ read_at n (q_bytes block) → refused k ≡ read_at n (label_bytes block)
+      → refused k ≡ done (read_grant n block)
+  grant_label k u v p q e = rw (answer, ← p, ← q, ← e)
+
+  pub grant_days : (r : Reading (Unit {0})) (u v w : Unit {0}) → accepted u ≡ read_at n (p_bytes block) → accepted v ≡ read_at n (q_bytes block)
+      → accepted w ≡ read_at n (label_bytes block) → r ≡ days_reading (first_day block) (last_day block) → r ≡ done (read_grant n block)
+  grant_days r u v w p q d e = e ∙ rw (answer, ← p, ← q, ← d)
+
+grants_cons : (n : ℕ) (b : List ℕ) (bs : List (List ℕ)) → done (read_grants n (b ∷ bs)) ≡ then (done (read_grant n b)) (done (read_grants n bs))
 unfolding read_grants
 grants_cons n b bs = both (read_grant n b) (read_grants n bs)
   where
-    both : (r : Reading Grant) (rs : Reading (List Grant)) → grant_reading (and_then r (λ g. and_then rs (λ gs. accepted (g ∷ gs)))) ≡ on_grant (grant_reading r) (grant_reading rs)
+    both : (r : Reading Grant) (rs : Reading (List Grant)) → done (and_then r (λ g. and_then rs (λ gs. accepted (g ∷ gs)))) ≡ then (done r) (done rs)
     both (accepted g) (accepted gs) = refl
     both (accepted g) (refused k) = refl
     both (refused k) rs = refl
 
 module _ (n : ℕ) (bytes : List ℕ) where
   -- the answer for block k, a grant's, and those after it
-  pub grants_from : ℕ → GrantReading
-  grants_from k = grant_reading (read_grants n (drop (k - 1) (grant_blocks bytes)))
+  pub grants_from : ℕ → Reading (Unit {0})
+  grants_from k = done (read_grants n (drop (k - 1) (grant_blocks bytes)))
 
-  pub grants_start : grants_from 1 ≡ grant_reading (read_grants n (grant_blocks bytes))
+  pub grants_start : grants_from 1 ≡ done (read_grants n (grant_blocks bytes))
   unfolding grants_from
   grants_start = refl
 
-  pub grants_more : (k : ℕ) (here whole : GrantReading) → 1 ≤ k → k < length bytes / 512 → here ≡ grant_reading (read_grant n (field (512 * k) 512 bytes)) → grants_from k ≡ whole → on_grant here (grants_from (k + 1)) ≡ whole
+  more : (k : ℕ) → 1 ≤ k → k < length bytes / 512 → grants_from k ≡ then (done (read_grant n (field (512 * k) 512 bytes))) (grants_from (k + 1))
   unfolding grants_from
-  grants_more k here whole a b e w =
+  more k a b =
       let long : k - 1 < length (grant_blocks bytes) = omega (arith, length-grant_blocks bytes) in
       let next : k + 1 - 1 ≡ suc (k - 1) = omega arith in
       let at : 512 * (k - 1 + 1) ≡ 512 * k = omega arith in
-      rw (e, next) (sym (grants_cons n (field (512 * k) 512 bytes) (drop (suc (k - 1)) (grant_blocks bytes))) ∙ (rw (drop-cons (grant_blocks bytes) (k - 1) [] long, get_or-grant_blocks bytes (k - 1) [] long, at) at w))
+      rw (drop-cons (grant_blocks bytes) (k - 1) [] long, get_or-grant_blocks bytes (k - 1) [] long, at, next) (grants_cons n (field (512 * k) 512 bytes) (drop (suc (k - 1)) (grant_blocks bytes)))
 
-  pub grants_end : (k : ℕ) → length bytes / 512 ≤ k → grants_from k ≡ Accepted
+  module _ (k : ℕ) (block : List ℕ) (whole : Reading (Unit {0})) (a : 1 ≤ k) (b : k < length bytes / 512) (is : block ≡ field (512 * k) 512 bytes) (w : grants_from k ≡ whole) where
+    pub grants_stop : (r : ℕ) → refused r ≡ done (read_grant n block) → refused r ≡ whole
+    grants_stop r e = let f = rw is at e in rw (← w, more k a b, ← f)
+
+    pub grants_more : (u : Unit {0}) → accepted u ≡ done (read_grant n block) → grants_from (k + 1) ≡ whole
+    grants_more u e = let f = rw is at e in rw (← w, more k a b, ← f)
+
+  pub grants_end : (k : ℕ) → length bytes / 512 ≤ k → grants_from k ≡ accepted tt
   unfolding grants_from read_grants
   grants_end k h =
       let past : length (grant_blocks bytes) ≤ k - 1 = omega (arith, length-grant_blocks bytes) in
       rw (drop_of_length-le (grant_blocks bytes) {i = k - 1} past)
 
--- what follows the grants of a ledger, once they are accepted
-abbrev pub on_grants : GrantReading → LedgerReading → LedgerReading
-on_grants Accepted next = next
-on_grants (Refused r) next = RefusedLedger r
-
-pub ledger_answer : (n : ℕ) (bs : List (List ℕ))
-    → ledger_reading (and_then (read_grants n bs) (λ gs. accepted (record { names = n; grants = gs })))
-    ≡ on_grants (grant_reading (read_grants n bs)) (AcceptedLedger n (length bs))
-ledger_answer n bs = counted (read_grants n bs) (λ gs e. (read_grants_lem n bs gs e).count)
+-- once the blocks and block 0 are accepted, the answer goes by the grants
+pub ledger_answer : (bytes : List ℕ) → ledger_length (length bytes) ≡ true → (checked (header bytes) && all_checked (grant_blocks bytes)) ≡ true
+    → header_form (length bytes / 512 - 1) (header bytes) ≡ true
+    → sizes (read_ledger bytes) ≡ then (done (read_grants (byte 1 bytes) (grant_blocks bytes))) (accepted (record { names = byte 1 bytes; grants = length bytes / 512 - 1 }))
+unfolding read_ledger
+ledger_answer bytes fits checks form =
+    let counted : header_form (length (grant_blocks bytes)) (header bytes) ≡ true = rw (length-grant_blocks bytes) form in
+    simp (fits, checks, counted) (by (read_grants (byte 1 bytes) (grant_blocks bytes)) (λ gs e. (read_grants_lem (byte 1 bytes) (grant_blocks bytes) gs e).count ∙ length-grant_blocks bytes))
   where
-    counted : (r : Reading (List Grant)) → ((gs : List Grant) → r ≡ accepted gs → length gs ≡ length bs)
-        → ledger_reading (and_then r (λ gs. accepted (record { names = n; grants = gs }))) ≡ on_grants (grant_reading r) (AcceptedLedger n (length bs))
-    counted (accepted gs) h = ap (AcceptedLedger n) (h gs refl)
-    counted (refused k) h = refl
+    by : (r : Reading (List Grant)) → ((gs : List Grant) → r ≡ accepted gs → length gs ≡ length bytes / 512 - 1)
+        → sizes (and_then r (λ gs. accepted (record { names = byte 1 bytes; grants = gs }))) ≡ then (done r) (accepted (record { names = byte 1 bytes; grants = length bytes / 512 - 1 }))
+    by (accepted gs) h = rw (h gs refl)
+    by (refused k) h = refl

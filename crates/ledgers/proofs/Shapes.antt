@@ -7,6 +7,7 @@ use lib.Dec.{eqb}
 use Rattle.model.specs.Bytes.{byte, field, zeros}
 use Rattle.model.specs.Terms.{term_length}
 use Rattle.model.specs.Ledgers.{grant_form}
+use Rattle.fields.specs.Terms.{past_term}
 use Rattle.ledgers.specs.Forms.{term_form}
 
 -- three lengths, and then what follows each term: the same as each length with what follows its term
@@ -18,7 +19,7 @@ regroup true true true false z x y w v = simp and-false
 regroup true true true true z x y w v = refl
 
 pub grant_fields : (block : List ℕ) → grant_form block ≡ (eqb (byte 0 block) 2 && (zeros (field 4 12 block) && (term_form 1 16 block && (term_form 2 80 block && (term_form 3 144 block && zeros (field 216 294 block))))))
-unfolding grant_form term_form
+unfolding grant_form term_form past_term
 grant_fields block =
     regroup
     (eqb (byte 0 block) 2)

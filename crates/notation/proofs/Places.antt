@@ -4,6 +4,7 @@ use Prim.Native.Nat.{ℕ, zero, suc, ◌+◌, ◌-◌, ◌<◌, ◌≤◌}
 use native.Mathlib.Omega.{arith}
 use mathlib.Core.Path.{◌≡◌, refl, sym, ap, ◌∙◌}
 use mathlib.Core.Bool.{true, false, cond, ◌&&◌}
+use Rattle.std.specs.Prelude.{Option, Some, None}
 use mathlib.Core.List.{List, [], ◌∷◌, ◌++◌, append_assoc, reverse_aux-eq}
 use lib.Dec.{leb, ltb}
 use lib.ListN.{length, drop, get_or, set, length-append, length-set}
@@ -11,13 +12,15 @@ use lib.Seq.{drop-cons, drop-set-lt, get_or-set_same}
 use borrow.Author.Tests.{ne_eqb}
 use Rattle.model.specs.Sides.{Side}
 use Rattle.model.specs.Terms.{project_code, codes}
-use Rattle.model.specs.Texts.{Joiner, Tree, letter, signed, join, no_place, joiner, flat, places, term, join_rank}
+use Rattle.model.specs.Texts.{Joiner, both, either, Tree, letter, signed, join, no_place, joiner, flat, places, term, join_rank}
 use Rattle.model.specs.Notation.{Back, ended, no_text, leftward, Last, sole, side, closing, other, last_of, ends_in, joined_to, read_last, read_back, around_back}
 use Rattle.model.proofs.Texts.{join_code, part_rank, join_codes, onto, onto_flat, onto_long, Right, last_right, back_sound, atom_none, atom_step, list_step}
-use Rattle.notation.specs.Reading.{ending_of, backward, ReadTo, Read, ReadBefore}
+use Rattle.terms.specs.declared.Joiner.{Joiner as CodeJoiner}
+use Rattle.terms.specs.declared.Joiner.TheVariants.{Both, Either}
+use Rattle.terms.specs.Joiners.{kind, joiner_code}
+use Rattle.notation.specs.Reading.{part_from, ending_of, backward, ReadTo, Read, ReadBefore}
 use Rattle.notation.specs.declared.Ending.TheVariants.{Sole, Sign, Closing, Other}
-use Rattle.notation.specs.declared.Left.{Left}
-use Rattle.notation.specs.declared.Left.TheVariants.{Before, NoText}
+use Rattle.notation.specs.declared.Part.{Part}
 
 -- ---- the first characters, the last one first
 
@@ -63,6 +66,15 @@ onto_append w r = onto_flat w r ∙ reverse_aux-eq (flat w) r ∙ ap (λ (l : Li
 
 -- ---- what a caller knows
 
+-- a part's two places
+abbrev start_of : Option Part → ℕ
+start_of (Some p) = p.start
+start_of None = 0
+
+abbrev from_of : Option Part → ℕ
+from_of (Some p) = p.from
+from_of None = 0
+
 -- where a reading of the first `end` characters left `start` of them, its codes from `from` on
 pub record Got (n l : ℕ) (text : List ℕ) (end to : ℕ) (before after : List ℕ) (start from : ℕ) : Type 0 where
   pub tree : Tree
@@ -74,12 +86,12 @@ pub record Got (n l : ℕ) (text : List ℕ) (end to : ℕ) (before after : List
   pub size : length after ≡ length before
 
 module _ (n l : ℕ) (text : List ℕ) (end to : ℕ) (before after : List ℕ) where
-  got_ended : (start from : ℕ) (b : Back) → read_back n l (backward text end) ≡ b → Read b to before after (Before start from) → Got n l text end to before after start from
+  got_ended : (start from : ℕ) (b : Back) → read_back n l (backward text end) ≡ b → Read b to before after (part_from start from) → Got n l text end to before after start from
   got_ended start from (ended w left) e h =
       let s = back_sound n l (backward text end) w left e in
-      let a : Before start from ≡ Before (length left) (to - length (codes (term w))) = h.answer in
-      let x : start ≡ length left = cc in
-      let y : from ≡ to - length (codes (term w)) = cc in
+      let a : part_from start from ≡ part_from (length left) (to - length (codes (term w))) = h.answer in
+      let x : start ≡ length left = ap start_of a in
+      let y : from ≡ to - length (codes (term w)) = ap from_of a in
       let g = onto_long w left in
       let k : end ≡ length (onto w left) = sym (backward_long text end) ∙ ap length s.0 in
       record {
@@ -91,25 +103,25 @@ module _ (n l : ℕ) (text : List ℕ) (end to : ℕ) (before after : List ℕ) 
         stored = rw y h.stored;
         size = h.size;
       }
-  got_ended start from no_text e h = let a : Before start from ≡ NoText = h.answer in absurd (let z : ◌≡◌ {A = ℕ} 0 1 = cc in omega arith)
+  got_ended start from no_text e h = let a : part_from start from ≡ None = h.answer in absurd (let z : ◌≡◌ {A = ℕ} 0 1 = cc in omega arith)
 
-  pub got : (start from : ℕ) (r : Left) → Read (read_back n l (backward text end)) to before after r → r ≡ Before start from → Got n l text end to before after start from
+  pub got : (start from : ℕ) (r : Option Part) → Read (read_back n l (backward text end)) to before after r → r ≡ part_from start from → Got n l text end to before after start from
   got start from r h e = got_ended start from (read_back n l (backward text end)) refl (rw e at h)
 
-  none_from : (b : Back) → Read b to before after NoText → b ≡ no_text
-  none_from (ended w left) h = let a : NoText ≡ Before (length left) (to - length (codes (term w))) = h.answer in cc
+  none_from : (b : Back) → Read b to before after None → b ≡ no_text
+  none_from (ended w left) h = let a : None ≡ part_from (length left) (to - length (codes (term w))) = h.answer in cc
   none_from no_text h = refl
 
-  pub got_none : (r : Left) → Read (read_back n l (backward text end)) to before after r → r ≡ NoText → read_back n l (backward text end) ≡ no_text
+  pub got_none : (r : Option Part) → Read (read_back n l (backward text end)) to before after r → r ≡ None → read_back n l (backward text end) ≡ no_text
   got_none r h e = none_from (read_back n l (backward text end)) (rw e at h)
 
 -- ---- what a reader returns
 
-pub read_none : (b : Back) (to : ℕ) (rest before after : List ℕ) → length after ≡ length before → b ≡ no_text → ReadTo b to rest before after NoText
+pub read_none : (b : Back) (to : ℕ) (rest before after : List ℕ) → length after ≡ length before → b ≡ no_text → ReadTo b to rest before after None
 read_none b to rest before after z e = rw e (record { answer = refl; stored = tt; size = z })
 
 pub read_ended : (b : Back) (to : ℕ) (rest before after : List ℕ) (w : Tree) (left : List ℕ) (start from : ℕ) → b ≡ ended w left → start ≡ length left → from ≡ to - length (codes (term w))
-    → drop from after ≡ codes (term w) ++ rest → length after ≡ length before → ReadTo b to rest before after (Before start from)
+    → drop from after ≡ codes (term w) ++ rest → length after ≡ length before → ReadTo b to rest before after (part_from start from)
 read_ended b to rest before after w left start from e x y h z = rw e (record { answer = rw (x, y); stored = rw y at h; size = z })
 
 -- one code more before those that stand from `from` on
@@ -170,7 +182,7 @@ last_plain n c a b d e f = rw (ne_eqb c 0x2A a, ne_eqb c 0x5F b, ne_eqb c 0x3E d
 -- ---- an atom, by its last character
 
 module _ (n : ℕ) (text : List ℕ) (end to : ℕ) (before : List ℕ) where
-  pub atom_end : end ≡ 0 → Read (read_back n 0 (backward text end)) to before before NoText
+  pub atom_end : end ≡ 0 → Read (read_back n 0 (backward text end)) to before before None
   atom_end h = read_none _ to _ before before refl (rw (backward_none text end h) (atom_none n))
 
   module _ (h : 0 < end) where
@@ -181,22 +193,22 @@ module _ (n : ℕ) (text : List ℕ) (end to : ℕ) (before : List ℕ) where
     last_at = ap (read_back n 0) (backward-step text end h) ∙ atom_step n (get_or text (end - 1) 0) (backward text (end - 1))
 
     pub atom_sole : (code : ℕ) → ending_of last ≡ Sole code → end ≤ to → to ≤ length before
-        → Read (read_back n 0 (backward text end)) to before (set before (to - 1) code) (Before (end - 1) (to - 1))
+        → Read (read_back n 0 (backward text end)) to before (set before (to - 1) code) (part_from (end - 1) (to - 1))
     atom_sole code e i k =
         let m = from_sole n (get_or text (end - 1) 0) code last (last_right n (get_or text (end - 1) 0)) e in
         read_ended _ to _ before (set before (to - 1) code) m.tree (backward text (end - 1)) (end - 1) (to - 1)
         (last_at ∙ ap (λ (x : Last). read_last (read_back n) (around_back n) x (backward text (end - 1))) m.is) (sym (backward_long text (end - 1))) (rw m.coded)
         (put-before before to code (drop to before) (omega arith) k refl ∙ rw m.coded) (length-set before (to - 1) code)
 
-    pub atom_other : ending_of last ≡ Other → Read (read_back n 0 (backward text end)) to before before NoText
+    pub atom_other : ending_of last ≡ Other → Read (read_back n 0 (backward text end)) to before before None
     atom_other e = read_none _ to _ before before refl (last_at ∙ rw (from-other last e))
 
     module _ (code : ℕ) (e : ending_of last ≡ Sign code) where
-      pub sign_none : (after : List ℕ) → length after ≡ length before → read_back n 0 (backward text (end - 1)) ≡ no_text → Read (read_back n 0 (backward text end)) to before after NoText
+      pub sign_none : (after : List ℕ) → length after ≡ length before → read_back n 0 (backward text (end - 1)) ≡ no_text → Read (read_back n 0 (backward text end)) to before after None
       sign_none after z g = read_none _ to _ before after z (last_at ∙ rw ((from-sign code last e).is, g))
 
       pub sign-ended : (mid : List ℕ) (start from : ℕ) → Got n 0 text (end - 1) to before mid start from → end ≤ to → to ≤ length before
-          → Read (read_back n 0 (backward text end)) to before (set mid (from - 1) code) (Before start (from - 1))
+          → Read (read_back n 0 (backward text end)) to before (set mid (from - 1) code) (part_from start (from - 1))
       unfolding term codes
       sign-ended mid start from g i k =
           let m = from-sign code last e in
@@ -208,7 +220,7 @@ module _ (n : ℕ) (text : List ℕ) (end to : ℕ) (before : List ℕ) where
           (put-before mid from code (codes (term g.tree) ++ drop to before) (omega arith) (omega arith) g.stored ∙ rw m.coded) (length-set mid (from - 1) code ∙ z)
 
     -- a closing bracket: no place is read yet
-    pub atom_closing : ending_of last ≡ Closing → (after : List ℕ) (r : Left) → ReadBefore (λ ws. around_back n ws (backward text (end - 1))) 0 to before after r
+    pub atom_closing : ending_of last ≡ Closing → (after : List ℕ) (r : Option Part) → ReadBefore (λ ws. around_back n ws (backward text (end - 1))) 0 to before after r
         → Read (read_back n 0 (backward text end)) to before after r
     unfolding places term codes
     atom_closing e after r h =
@@ -219,26 +231,34 @@ module _ (n : ℕ) (text : List ℕ) (end to : ℕ) (before : List ℕ) where
 
 -- ---- a list, by what stands before its last part
 
+pub code_same : (j : CodeJoiner) → joiner_code j ≡ join_code (kind j)
+code_same Both = refl
+code_same Either = refl
+
+pub last_rank : (j : Joiner) → join_rank j - 1 ≡ part_rank j
+last_rank both = refl
+last_rank either = refl
+
 module _ (n : ℕ) (j : Joiner) (text : List ℕ) (end to : ℕ) (before : List ℕ) where
-  pub list_none : (after : List ℕ) → length after ≡ length before → read_back n (part_rank j) (backward text end) ≡ no_text → Read (read_back n (join_rank j) (backward text end)) to before after NoText
+  pub list_none : (after : List ℕ) → length after ≡ length before → read_back n (part_rank j) (backward text end) ≡ no_text → Read (read_back n (join_rank j) (backward text end)) to before after None
   list_none after z e = read_none _ to _ before after z (list_step n j (backward text end) ∙ rw e)
 
   module _ (mid : List ℕ) (start from : ℕ) (g : Got n (part_rank j) text end to before mid start from) where
     list_at : read_back n (join_rank j) (backward text end) ≡ joined_to j (read_back n (join_rank j)) g.tree (backward text start)
     list_at = list_step n j (backward text end) ∙ rw g.is
 
-    pub list_alone : ends_in (joiner j) (backward text start) ≡ false → Read (read_back n (join_rank j) (backward text end)) to before mid (Before start from)
+    pub list_alone : ends_in (joiner j) (backward text start) ≡ false → Read (read_back n (join_rank j) (backward text end)) to before mid (part_from start from)
     list_alone e = read_ended _ to _ before mid g.tree (backward text start) start from (list_at ∙ rw e) (sym (backward_long text start)) g.begins g.stored g.size
 
     module _ (e : ends_in (joiner j) (backward text start) ≡ true) where
       list_on : read_back n (join_rank j) (backward text end) ≡ leftward (read_back n (join_rank j) (backward text (start - 1))) (λ p left. ended (join j p g.tree) left)
       list_on = list_at ∙ rw (e, backward_less text start)
 
-      pub list_more_none : (after : List ℕ) → length after ≡ length mid → read_back n (join_rank j) (backward text (start - 1)) ≡ no_text → Read (read_back n (join_rank j) (backward text end)) to before after NoText
+      pub list_more_none : (after : List ℕ) → length after ≡ length mid → read_back n (join_rank j) (backward text (start - 1)) ≡ no_text → Read (read_back n (join_rank j) (backward text end)) to before after None
       list_more_none after y f = read_none _ to _ before after (y ∙ g.size) (list_on ∙ rw f)
 
       pub list_more : (last : List ℕ) (first second : ℕ) → Got n (join_rank j) text (start - 1) from mid last first second → end ≤ to → to ≤ length before
-          → Read (read_back n (join_rank j) (backward text end)) to before (set last (second - 1) (join_code j)) (Before first (second - 1))
+          → Read (read_back n (join_rank j) (backward text end)) to before (set last (second - 1) (join_code j)) (part_from first (second - 1))
       unfolding term
       list_more last first second k i m =
           let x = ends_some text start (joiner j) e in

@@ -5,6 +5,7 @@ use native.Mathlib.Omega.{arith}
 use native.Mathlib.Numerals.{add-one}
 use mathlib.Core.Path.{◌≡◌, refl, sym, ap, ◌∙◌}
 use mathlib.Core.Bool.{Bool, true, false, cond, ◌&&◌}
+use Rattle.std.specs.Prelude.{Option, Some, None}
 use mathlib.Core.List.{List, [], ◌∷◌, ◌++◌, append_assoc, append-nil}
 use lib.Dec.{eqb, ltb}
 use lib.ListN.{length, drop, set, length-append, length-set}
@@ -14,11 +15,9 @@ use Rattle.model.specs.Texts.{bracket, at_least, Trees, no_place, place, places,
 use Rattle.model.specs.Notation.{Back, ended, no_text, ends_in, Number, number, no_number, read_number, on_number, bracketed, opened, placed, read_back, around_back}
 use Rattle.model.proofs.Truth.{cond_case}
 use Rattle.model.proofs.Texts.{digits, NumberIn, number-sound, number_told, count_terms, around_step}
-use Rattle.notation.specs.Reading.{numeral_of, backward, ReadTo, ReadBefore}
+use Rattle.notation.specs.Reading.{part_from, numeral_from, numeral_of, backward, ReadTo, ReadBefore}
 use Rattle.notation.specs.declared.Numeral.{Numeral}
-use Rattle.notation.specs.declared.Numeral.TheVariants.{Of, NoNumeral}
-use Rattle.notation.specs.declared.Left.{Left}
-use Rattle.notation.specs.declared.Left.TheVariants.{Before, NoText}
+use Rattle.notation.specs.declared.Part.{Part}
 use Rattle.notation.proofs.Places.{backward_long, backward_less, suffix, Got, ends_some, read_none, read_ended, put-before}
 
 -- ---- numbers
@@ -38,11 +37,20 @@ digits_split k r = by (ltb k 10)
 digits_some : (k : ℕ) → 1 ≤ length (digits k [])
 digits_some k = cond_case (λ (l : List ℕ). 1 ≤ length l) (ltb k 10) _ _ (λ _. omega arith) (λ _. omega arith)
 
+-- a numeral's number and place
+abbrev value_of : Option Numeral → ℕ
+value_of (Some x) = x.value
+value_of None = 0
+
+abbrev before_of : Option Numeral → ℕ
+before_of (Some x) = x.start
+before_of None = 0
+
 module _ (text : List ℕ) (end : ℕ) where
-  got_from : (k start : ℕ) (x : Number) → read_number (backward text end) ≡ x → NumberIn (backward text end) x → numeral_of x ≡ Of k start → GotNumber text end k start
+  got_from : (k start : ℕ) (x : Number) → read_number (backward text end) ≡ x → NumberIn (backward text end) x → numeral_of x ≡ numeral_from k start → GotNumber text end k start
   got_from k start (number j left) e h q =
-      let x : j ≡ k = cc in
-      let y : length left ≡ start = cc in
+      let x : j ≡ k = ap value_of q in
+      let y : length left ≡ start = ap before_of q in
       let f : backward text end ≡ digits j [] ++ left = h ∙ digits_split j left in
       record {
         is = e ∙ rw x (ap (number k) (suffix text end (digits j []) left f ∙ ap (backward text) y));
@@ -50,23 +58,23 @@ module _ (text : List ℕ) (end : ℕ) where
       }
   got_from k start no_number e h q = absurd (let z : ◌≡◌ {A = ℕ} 0 1 = cc in omega arith)
 
-  pub got_number : (k start : ℕ) (r : Numeral) → r ≡ numeral_of (read_number (backward text end)) → r ≡ Of k start → GotNumber text end k start
+  pub got_number : (k start : ℕ) (r : Option Numeral) → r ≡ numeral_of (read_number (backward text end)) → r ≡ numeral_from k start → GotNumber text end k start
   got_number k start r h e = got_from k start (read_number (backward text end)) refl (number-sound (backward text end)) (sym h ∙ e)
 
-  none_from : (x : Number) → numeral_of x ≡ NoNumeral → x ≡ no_number
+  none_from : (x : Number) → numeral_of x ≡ None → x ≡ no_number
   none_from (number k left) e = cc
   none_from no_number e = refl
 
-  pub got_no_number : (r : Numeral) → r ≡ numeral_of (read_number (backward text end)) → r ≡ NoNumeral → read_number (backward text end) ≡ no_number
+  pub got_no_number : (r : Option Numeral) → r ≡ numeral_of (read_number (backward text end)) → r ≡ None → read_number (backward text end) ≡ no_number
   got_no_number r h e = none_from (read_number (backward text end)) (sym h ∙ e)
 
 -- ---- the opening bracket
 
 module _ (text : List ℕ) (end to many : ℕ) (before : List ℕ) where
-  abbrev Opening : List ℕ → Left → Type 0
+  abbrev Opening : List ℕ → Option Part → Type 0
   Opening after r = ReadBefore (λ ws. opened ws (backward text end)) many to before after r
 
-  opening_none : ((ws : Trees) → places ws ≡ many → opened ws (backward text end) ≡ no_text) → Opening before NoText
+  opening_none : ((ws : Trees) → places ws ≡ many → opened ws (backward text end) ≡ no_text) → Opening before None
   opening_none h = record { whole = λ ws rest q e. read_none _ _ rest before before refl (h ws q) }
 
   -- no number: one place in brackets, or none
@@ -74,11 +82,11 @@ module _ (text : List ℕ) (end to many : ℕ) (before : List ℕ) where
     as_bracket : (ws : Trees) → opened ws (backward text end) ≡ bracketed ws (backward text end)
     as_bracket ws = rw (number_told (backward text end), none)
 
-    pub one_place : many ≡ 1 → Opening before (Before end to)
+    pub one_place : many ≡ 1 → Opening before (part_from end to)
     unfolding places term codes
     one_place m = record { whole = λ ws rest q e. one ws rest (q ∙ m) e }
       where
-        one : (ws : Trees) (rest : List ℕ) → places ws ≡ 1 → drop to before ≡ codes_all (terms ws) ++ rest → ReadTo (opened ws (backward text end)) (to + length (codes_all (terms ws))) rest before before (Before end to)
+        one : (ws : Trees) (rest : List ℕ) → places ws ≡ 1 → drop to before ≡ codes_all (terms ws) ++ rest → ReadTo (opened ws (backward text end)) (to + length (codes_all (terms ws))) rest before before (part_from end to)
         one no_place rest q e = absurd (omega arith)
         one (place w no_place) rest q e =
             let z : length (codes (term w) ++ []) ≡ length (codes (term w)) = ap length (append-nil (codes (term w))) in
@@ -86,7 +94,7 @@ module _ (text : List ℕ) (end to many : ℕ) (before : List ℕ) where
             (e ∙ ap (λ (l : List ℕ). l ++ rest) (append-nil (codes (term w)))) refl
         one (place w (place v ws)) rest q e = absurd (omega arith)
 
-    pub other-places : (many ≡ 1 → ⊥) → Opening before NoText
+    pub other-places : (many ≡ 1 → ⊥) → Opening before None
     unfolding places
     other-places m = opening_none (λ ws q. as_bracket ws ∙ none_of ws (λ e. m (sym q ∙ e)))
       where
@@ -101,34 +109,34 @@ module _ (text : List ℕ) (end to many : ℕ) (before : List ℕ) where
         ≡ cond (eqb m (places ws) && ends_in 0x3A (backward text colon)) (on_number (read_number (backward text (colon - 1))) (λ k rest. cond (quorate k m) (ended (at_least k ws) rest) no_text)) no_text
     as_quorum ws = rw (number_told (backward text end), g.is, backward_less text colon)
 
-    pub other-number : (m ≡ many → ⊥) → Opening before NoText
+    pub other-number : (m ≡ many → ⊥) → Opening before None
     other-number h = opening_none (λ ws q. as_quorum ws ∙ rw (ne_eqb m (places ws) (λ e. h (e ∙ q))))
 
     module _ (same : m ≡ many) where
       is_many : (ws : Trees) → places ws ≡ many → eqb m (places ws) ≡ true
       is_many ws q = eq-eqb m (places ws) (same ∙ sym q)
 
-      pub no_colon : ends_in 0x3A (backward text colon) ≡ false → Opening before NoText
+      pub no_colon : ends_in 0x3A (backward text colon) ≡ false → Opening before None
       no_colon h = opening_none (λ ws q. as_quorum ws ∙ rw (is_many ws q, h))
 
       module _ (parted : ends_in 0x3A (backward text colon) ≡ true) where
-        pub no_number_lem : read_number (backward text (colon - 1)) ≡ no_number → Opening before NoText
+        pub no_number_lem : read_number (backward text (colon - 1)) ≡ no_number → Opening before None
         no_number_lem h = opening_none (λ ws q. as_quorum ws ∙ rw (is_many ws q, parted, h))
 
         module _ (k start : ℕ) (f : GotNumber text (colon - 1) k start) where
-          pub out_of_range : quorate k m ≡ false → Opening before NoText
+          pub out_of_range : quorate k m ≡ false → Opening before None
           out_of_range h = opening_none (λ ws q. as_quorum ws ∙ rw (is_many ws q, parted, f.is, h))
 
           -- at least one character for each code
           pub three : 3 ≤ end
           three = omega (arith, g.less, f.less, ends_some text colon 0x3A parted)
 
-          pub quorum_read : quorate k m ≡ true → end ≤ to → to ≤ length before → Opening (set (set (set before (to - 1) m) (to - 2) k) (to - 3) 0x32) (Before start (to - 3))
+          pub quorum_read : quorate k m ≡ true → end ≤ to → to ≤ length before → Opening (set (set (set before (to - 1) m) (to - 2) k) (to - 3) 0x32) (part_from start (to - 3))
           unfolding term codes
           quorum_read fits a b = record { whole = λ ws rest q e. done ws rest q e }
             where
               done : (ws : Trees) (rest : List ℕ) → places ws ≡ many → drop to before ≡ codes_all (terms ws) ++ rest
-                  → ReadTo (opened ws (backward text end)) (to + length (codes_all (terms ws))) rest before (set (set (set before (to - 1) m) (to - 2) k) (to - 3) 0x32) (Before start (to - 3))
+                  → ReadTo (opened ws (backward text end)) (to + length (codes_all (terms ws))) rest before (set (set (set before (to - 1) m) (to - 2) k) (to - 3) 0x32) (part_from start (to - 3))
               done ws rest q e =
                   let one = set before (to - 1) m in
                   let two = set one (to - 2) k in
@@ -148,13 +156,13 @@ module _ (text : List ℕ) (end to many : ℕ) (before : List ℕ) where
 -- ---- one place more
 
 module _ (n : ℕ) (text : List ℕ) (end to many : ℕ) (before : List ℕ) where
-  abbrev Around : List ℕ → Left → Type 0
+  abbrev Around : List ℕ → Option Part → Type 0
   Around after r = ReadBefore (λ ws. around_back n ws (backward text end)) many to before after r
 
-  around_none : (after : List ℕ) → length after ≡ length before → ((ws : Trees) → around_back n ws (backward text end) ≡ no_text) → Around after NoText
+  around_none : (after : List ℕ) → length after ≡ length before → ((ws : Trees) → around_back n ws (backward text end) ≡ no_text) → Around after None
   around_none after z h = record { whole = λ ws rest q e. read_none _ _ rest before after z (h ws) }
 
-  pub place_none : (after : List ℕ) → length after ≡ length before → read_back n 2 (backward text end) ≡ no_text → Around after NoText
+  pub place_none : (after : List ℕ) → length after ≡ length before → read_back n 2 (backward text end) ≡ no_text → Around after None
   place_none after z h = around_none after z (λ ws. around_step n ws (backward text end) ∙ rw h)
 
   module _ (mid : List ℕ) (start from : ℕ) (g : Got n 2 text end to before mid start from) where
@@ -162,7 +170,7 @@ module _ (n : ℕ) (text : List ℕ) (end to many : ℕ) (before : List ℕ) whe
     placed_at ws = around_step n ws (backward text end) ∙ rw g.is
 
     -- what stands before the place is read as `next` says of all places
-    place_more : end ≤ to → (next : Trees → Back) → ((ws : Trees) → around_back n ws (backward text end) ≡ next (place g.tree ws)) → (after : List ℕ) (r : Left)
+    place_more : end ≤ to → (next : Trees → Back) → ((ws : Trees) → around_back n ws (backward text end) ≡ next (place g.tree ws)) → (after : List ℕ) (r : Option Part)
         → ReadBefore next (many + 1) from mid after r → Around after r
     unfolding places term codes
     place_more a next is after r h = record { whole = λ ws rest q e. more ws rest q e }
@@ -176,12 +184,12 @@ module _ (n : ℕ) (text : List ℕ) (end to many : ℕ) (before : List ℕ) whe
             rw (is ws) (record { answer = y.answer; stored = y.stored; size = y.size ∙ g.size })
 
     module _ (a : end ≤ to) where
-      pub place_comma : ends_in 0x2C (backward text start) ≡ true → (after : List ℕ) (r : Left) → ReadBefore (λ ws. around_back n ws (backward text (start - 1))) (many + 1) from mid after r → Around after r
+      pub place_comma : ends_in 0x2C (backward text start) ≡ true → (after : List ℕ) (r : Option Part) → ReadBefore (λ ws. around_back n ws (backward text (start - 1))) (many + 1) from mid after r → Around after r
       place_comma h = place_more a (λ ws. around_back n ws (backward text (start - 1))) (λ ws. placed_at ws ∙ rw (h, backward_less text start))
 
       module _ (last : ends_in 0x2C (backward text start) ≡ false) where
-        pub place_open : ends_in 0x28 (backward text start) ≡ true → (after : List ℕ) (r : Left) → ReadBefore (λ ws. opened ws (backward text (start - 1))) (many + 1) from mid after r → Around after r
+        pub place_open : ends_in 0x28 (backward text start) ≡ true → (after : List ℕ) (r : Option Part) → ReadBefore (λ ws. opened ws (backward text (start - 1))) (many + 1) from mid after r → Around after r
         place_open h = place_more a (λ ws. opened ws (backward text (start - 1))) (λ ws. placed_at ws ∙ rw (last, h, backward_less text start))
 
-        pub place_other : ends_in 0x28 (backward text start) ≡ false → Around mid NoText
+        pub place_other : ends_in 0x28 (backward text start) ≡ false → Around mid None
         place_other h = around_none mid g.size (λ ws. placed_at ws ∙ rw (last, h))

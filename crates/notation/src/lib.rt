@@ -1,21 +1,18 @@
-// Terms on paper (document 02, K1 and K4): texts are read to codes.
+// Terms on paper (document 02, K1 and K4): texts are read to codes, from the end to the beginning.
 #![tactic(auto)]
 
-ghost use Rattle.std.specs.Prelude.{◌≡◌, ◌++◌, ◌+◌, ◌≤◌, drop, length};
+ghost use Rattle.std.specs.Prelude.{◌≡◌, ◌+◌, ◌-◌, ◌≤◌, length};
+ghost use Rattle.model.specs.Texts.{join_rank};
 ghost use Rattle.model.specs.Notation.{last_of, ends_in, read_number, opened, read_back, around_back, read_text};
-ghost use Rattle.notation.specs.Reading.{outcome_of, ending_of, numeral_of, backward, Room, Read, ReadBefore};
+ghost use Rattle.refusals.specs.Results.{outcome_of};
+ghost use Rattle.terms.specs.Joiners.{kind};
+ghost use Rattle.notation.specs.Reading.{ending_of, numeral_of, backward, Room, Read, ReadBefore};
 
-// What a call gives, of reading and of writing.
-#[derive(Clone, Copy)]
-pub enum Noted {
-    // How many bytes were written.
-    Written(usize),
-    // The number of the refusal.
-    Refused(u8),
-}
+use refusals::Refusal;
+use terms::Joiner;
 
 // What a character is as the last of an atom.
-#[derive(Clone, Copy)]
+#[derive(Clone, Copy, Debug, PartialEq, Eq)]
 enum Ending {
     // A name below n, * or _: its code.
     Sole(u8),
@@ -25,14 +22,21 @@ enum Ending {
     Other,
 }
 
-// What is read off the end of a text.
-#[derive(Clone, Copy)]
-enum Left {
-    // How many characters are left before it, and where its codes start.
-    Before(usize, usize),
-    NoText,
+// What is read off the end of a text: how many characters are left before it, and where its codes start.
+#[derive(Clone, Copy, Debug, PartialEq, Eq)]
+struct Part {
+    start: usize,
+    from: usize,
 }
 
+// A number at the end of a text, and how many characters are left before it.
+#[derive(Clone, Copy, Debug, PartialEq, Eq)]
+struct Numeral {
+    value: u8,
+    start: usize,
+}
+
+#[tactic(auto, using(crate::proofs::Places::last_plain))]
 fn ending_of(c: u8, n: u64) -> Ending
     ensures { result ≡ ending_of (last_of n c) }
 {
@@ -43,17 +47,11 @@ fn ending_of(c: u8, n: u64) -> Ending
         b'<' => Ending::Sign(0x41),
         b')' => Ending::Closing,
         _ => {
-            if c < b'a' {
-                return Ending::Other;
+            if b'a' <= c && c - b'a' < 12 && ((c - b'a') as u64) < n {
+                Ending::Sole(c - b'a')
+            } else {
+                Ending::Other
             }
-            let i = c - b'a';
-            if 12 <= i {
-                return Ending::Other;
-            }
-            if n <= i as u64 {
-                return Ending::Other;
-            }
-            Ending::Sole(i)
         }
     }
 }
@@ -63,80 +61,78 @@ fn ends_in(text: &[u8], end: usize, c: u8) -> bool
     requires { end ≤ length text.now }
     ensures { result ≡ ends_in c (backward text.now end) }
 {
-    if end == 0 {
-        return false;
-    }
-    text[end - 1] == c
-}
-
-// A number at the end of a text.
-#[derive(Clone, Copy)]
-enum Numeral {
-    // The number, and how many characters are left before it.
-    Of(u8, usize),
-    NoNumeral,
+    0 < end && text[end - 1] == c
 }
 
 // The number that the first `end` characters end with: the last digit, and ten more where a 1 stands before it.
-fn read_number(text: &[u8], end: usize) -> Numeral
+fn read_number(text: &[u8], end: usize) -> Option<Numeral>
     requires { end ≤ length text.now }
     ensures { result ≡ numeral_of (read_number (backward text.now end)) }
 {
     if end == 0 {
-        return Numeral::NoNumeral;
+        return None;
     }
-    let last = end - 1;
-    let c = text[last];
-    if c < b'0' {
-        return Numeral::NoNumeral;
+    let start = end - 1;
+    let c = text[start];
+    if c < b'0' || b'9' < c {
+        return None;
     }
-    if b'9' < c {
-        return Numeral::NoNumeral;
+    let digit = c - b'0';
+    if ends_in(text, start, b'1') {
+        return Some(Numeral {
+            value: 10 + digit,
+            start: start - 1,
+        });
     }
-    let ten = ends_in(text, last, b'1');
-    if ten {
-        return Numeral::Of(10 + (c - b'0'), last - 1);
-    }
-    Numeral::Of(c - b'0', last)
+    Some(Numeral {
+        value: digit,
+        start,
+    })
 }
 
 // Ends the reading of `many` places, whose codes start at `to`. Their opening bracket stands behind the first `end` characters: where a number stands before it
 // they are those of a quorum, and k, m and its code are put before theirs; otherwise it is one place, a text in brackets.
-fn read_opening(text: &[u8], end: usize, scratch: &mut [u8; 256], to: usize, many: usize) -> Left
+fn read_opening(
+    text: &[u8],
+    end: usize,
+    scratch: &mut [u8; 256],
+    to: usize,
+    many: usize,
+) -> Option<Part>
     requires { Room text.now end to scratch.old }
     ensures { ReadBefore (λ ws. opened ws (backward text.now end)) many to scratch.old scratch.new result }
 {
-    let second = read_number(text, end);
-    let Numeral::Of(m, colon) = second else {
+    let Some(m) = read_number(text, end) else {
         if many == 1 {
-            return Left::Before(end, to);
+            return Some(Part {
+                start: end,
+                from: to,
+            });
         }
-        return Left::NoText;
+        return None;
     };
-    if m as usize != many {
-        return Left::NoText;
+    if m.value as usize != many {
+        return None;
     }
-    let parted = ends_in(text, colon, b':');
-    if !parted {
-        return Left::NoText;
+    if !ends_in(text, m.start, b':') {
+        return None;
     }
-    let first = read_number(text, colon - 1);
-    let Numeral::Of(k, start) = first else {
-        return Left::NoText;
-    };
-    let fits = terms::in_range(k, m);
-    if !fits {
-        return Left::NoText;
+    let k = read_number(text, m.start - 1)?;
+    if !terms::in_range(k.value, m.value) {
+        return None;
     }
-    scratch[to - 1] = m;
-    scratch[to - 2] = k;
+    scratch[to - 1] = m.value;
+    scratch[to - 2] = k.value;
     scratch[to - 3] = 0x32;
-    Left::Before(start, to - 3)
+    Some(Part {
+        start: k.start,
+        from: to - 3,
+    })
 }
 
 // Reads the rest of a text in brackets, or of a quorum, of which `many` places are read already: the either-list that the first `end` characters end with is one
 // more, and before it stands a comma, or the opening bracket.
-#[cycle(read_atom_read_both_read_either_read_places)]
+#[cycle(read_atom_read_last_read_list_read_places)]
 fn read_places(
     n: u64,
     text: &[u8],
@@ -144,133 +140,117 @@ fn read_places(
     scratch: &mut [u8; 256],
     to: usize,
     many: usize,
-) -> Left
+) -> Option<Part>
     requires { Room text.now end to scratch.old × (many + end ≤ 256) }
     ensures { ReadBefore (λ ws. around_back n ws (backward text.now end)) many to scratch.old scratch.new result }
 {
-    let part = read_either(n, text, end, scratch, to);
-    let Left::Before(start, from) = part else {
-        return Left::NoText;
-    };
-    let more = ends_in(text, start, b',');
-    if more {
-        return read_places(n, text, start - 1, scratch, from, many + 1);
+    let place = read_list(Joiner::Either, n, text, end, scratch, to)?;
+    if ends_in(text, place.start, b',') {
+        return read_places(n, text, place.start - 1, scratch, place.from, many + 1);
     }
-    let first = ends_in(text, start, b'(');
-    if !first {
-        return Left::NoText;
+    if !ends_in(text, place.start, b'(') {
+        return None;
     }
-    read_opening(text, start - 1, scratch, from, many + 1)
+    read_opening(text, place.start - 1, scratch, place.from, many + 1)
 }
 
 // Reads the atom that the first `end` characters end with. Its codes are put into the scratch, right before `to`.
-#[cycle(read_atom_read_both_read_either_read_places)]
-fn read_atom(n: u64, text: &[u8], end: usize, scratch: &mut [u8; 256], to: usize) -> Left
+#[cycle(read_atom_read_last_read_list_read_places)]
+fn read_atom(n: u64, text: &[u8], end: usize, scratch: &mut [u8; 256], to: usize) -> Option<Part>
     requires { Room text.now end to scratch.old }
     ensures { Read (read_back n 0 (backward text.now end)) to scratch.old scratch.new result }
 {
     if end == 0 {
-        return Left::NoText;
+        return None;
     }
     let last = end - 1;
-    let ending = ending_of(text[last], n);
-    match ending {
+    match ending_of(text[last], n) {
         Ending::Sole(code) => {
             scratch[to - 1] = code;
-            Left::Before(last, to - 1)
+            Some(Part {
+                start: last,
+                from: to - 1,
+            })
         }
         Ending::Sign(code) => {
-            let part = read_atom(n, text, last, scratch, to);
-            let Left::Before(start, from) = part else {
-                return Left::NoText;
-            };
-            scratch[from - 1] = code;
-            Left::Before(start, from - 1)
+            let part = read_atom(n, text, last, scratch, to)?;
+            scratch[part.from - 1] = code;
+            Some(Part {
+                start: part.start,
+                from: part.from - 1,
+            })
         }
         Ending::Closing => read_places(n, text, last, scratch, to, 0),
-        Ending::Other => Left::NoText,
+        Ending::Other => None,
     }
 }
 
-// Reads the both-list that the first `end` characters end with: its last atom, and where & stands before that, the both-list on the left.
-#[cycle(read_atom_read_both_read_either_read_places)]
-fn read_both(n: u64, text: &[u8], end: usize, scratch: &mut [u8; 256], to: usize) -> Left
+// Reads the last part of a list that the first `end` characters end with: an atom of a both-list, a both-list of an either-list.
+#[cycle(read_atom_read_last_read_list_read_places)]
+fn read_last(
+    joiner: Joiner,
+    n: u64,
+    text: &[u8],
+    end: usize,
+    scratch: &mut [u8; 256],
+    to: usize,
+) -> Option<Part>
     requires { Room text.now end to scratch.old }
-    ensures { Read (read_back n 1 (backward text.now end)) to scratch.old scratch.new result }
+    ensures { Read (read_back n (join_rank (kind joiner) - 1) (backward text.now end)) to scratch.old scratch.new result }
 {
-    let part = read_atom(n, text, end, scratch, to);
-    let Left::Before(start, from) = part else {
-        return Left::NoText;
-    };
-    let more = ends_in(text, start, b'&');
-    if !more {
-        return Left::Before(start, from);
+    match joiner {
+        Joiner::Both => read_atom(n, text, end, scratch, to),
+        Joiner::Either => read_list(Joiner::Both, n, text, end, scratch, to),
     }
-    let list = read_both(n, text, start - 1, scratch, from);
-    let Left::Before(first, second) = list else {
-        return Left::NoText;
-    };
-    scratch[second - 1] = 0x30;
-    Left::Before(first, second - 1)
 }
 
-// Reads the either-list that the first `end` characters end with: its last both-list, and where | stands before that, the either-list on the left.
-#[cycle(read_atom_read_both_read_either_read_places)]
-fn read_either(n: u64, text: &[u8], end: usize, scratch: &mut [u8; 256], to: usize) -> Left
+// Reads the list of the joiner that the first `end` characters end with: its last part, and where the joiner stands before that, the list on the left.
+#[cycle(read_atom_read_last_read_list_read_places)]
+fn read_list(
+    joiner: Joiner,
+    n: u64,
+    text: &[u8],
+    end: usize,
+    scratch: &mut [u8; 256],
+    to: usize,
+) -> Option<Part>
     requires { Room text.now end to scratch.old }
-    ensures { Read (read_back n 2 (backward text.now end)) to scratch.old scratch.new result }
+    ensures { Read (read_back n (join_rank (kind joiner)) (backward text.now end)) to scratch.old scratch.new result }
 {
-    let part = read_both(n, text, end, scratch, to);
-    let Left::Before(start, from) = part else {
-        return Left::NoText;
-    };
-    let more = ends_in(text, start, b'|');
-    if !more {
-        return Left::Before(start, from);
+    let part = read_last(joiner, n, text, end, scratch, to)?;
+    if !ends_in(text, part.start, joiner.mark()) {
+        return Some(part);
     }
-    let list = read_either(n, text, start - 1, scratch, from);
-    let Left::Before(first, second) = list else {
-        return Left::NoText;
-    };
-    scratch[second - 1] = 0x31;
-    Left::Before(first, second - 1)
+    let list = read_list(joiner, n, text, part.start - 1, scratch, part.from)?;
+    scratch[list.from - 1] = joiner.code();
+    Some(Part {
+        start: list.start,
+        from: list.from - 1,
+    })
 }
 
-// Puts the bytes of `from` at the start of `to`, and gives how many they are. Later bytes keep their content.
-fn copy(from: &[u8], to: &mut [u8]) -> usize
-    requires { length from.now ≤ length to.old }
-    ensures counted { result ≡ length from.now }
-    ensures copied { to.new ≡ from.now ++ drop (length from.now) to.old }
-{
-    let n = from.len();
-    to[..n].copy_from_slice(from);
-    n
-}
-
-// Takes n, a text and a buffer of 64 bytes, for its codes. They are read into a scratch, which has a byte for each character, so that a refused
-// text leaves the buffer as it was. Later bytes keep their content.
-pub fn read_text(n: u64, text: &[u8], codes: &mut [u8]) -> Noted
+// Takes n, a text and a buffer of 64 bytes, for its codes, and gives how many they are. They are read into a scratch, which has a byte for each character, so that
+// a refused text leaves the buffer as it was. Later bytes keep their content.
+pub fn read_text(n: u64, text: &[u8], codes: &mut [u8]) -> Result<usize, Refusal>
     ensures { outcome_of result codes.new ≡ read_text n text.now codes.old }
 {
     if n < 1 || 12 < n {
-        return Noted::Refused(7);
+        return Err(Refusal::Names);
     }
-    if text.len() < 1 || 256 < text.len() {
-        return Noted::Refused(81);
-    }
-    if codes.len() != 64 {
-        return Noted::Refused(81);
+    if text.len() < 1 || 256 < text.len() || codes.len() != 64 {
+        return Err(Refusal::TextLength);
     }
     let mut scratch = [0u8; 256];
-    let read = read_either(n, text, text.len(), &mut scratch, 256);
-    let Left::Before(start, from) = read else {
-        return Noted::Refused(82);
+    let Some(read) = read_list(Joiner::Either, n, text, text.len(), &mut scratch, 256) else {
+        return Err(Refusal::NoText);
     };
-    if start != 0 {
-        return Noted::Refused(82);
+    if read.start != 0 {
+        return Err(Refusal::NoText);
     }
-    if from < 192 {
-        return Noted::Refused(83);
+    if read.from < 192 {
+        return Err(Refusal::TextCodes);
     }
-    Noted::Written(copy(&scratch[from..], codes))
+    let count = 256 - read.from;
+    codes[..count].copy_from_slice(&scratch[read.from..]);
+    Ok(count)
 }

@@ -1,48 +1,38 @@
 -- What the loops over coalitions and sizes keep. Assumes nothing.
 use mathlib.Core.Path.{◌≡◌, refl, sym, ap, ◌∙◌}
-use Prim.Native.Nat.{ℕ, ◌+◌, ◌*◌, ◌%◌, ◌^◌, ◌≤◌, ◌<◌, max, min}
+use Prim.Native.Nat.{ℕ, ◌+◌, ◌*◌, ◌%◌, ◌^◌, ◌≤◌, max, min}
 use native.Mathlib.Numerals.{add-one}
 use native.Mathlib.Omega.{arith}
-use mathlib.Core.Bool.{Bool}
+use mathlib.Core.Bool.{Bool, cond}
+use mathlib.Core.List.{List, ◌∷◌}
+use Rattle.std.specs.List.{range_with_len}
+use Rattle.std.proofs.Common.{filter, length, eqb, zero, suc}
 use lib.Pow.{pow_mono}
-use borrow.Author.Tests.{eq-eqb, ne_eqb}
-use Rattle.model.specs.Coalitions.{bit, those}
+use Rattle.model.specs.Coalitions.{those}
 use Rattle.model.specs.Layers.{size, layer, largest, largest_layer}
-use Rattle.model.proofs.Listed.{length-those}
 use Rattle.model.proofs.Packed.{shifted}
-use Rattle.sperner.proofs.Counts.{count, count-suc}
+use Rattle.sperner.proofs.Counts.{count_cong}
 use Rattle.sperner.proofs.Sizes.{of_size, ones_size}
 
 -- ---- the coalitions of one size
 
-pub power_fits : (n r : ℕ) → r ≡ min n 12 → 1 * 2 ^ r % 2 ^ 64 ≡ 2 ^ min n 12
-power_fits n r e = ap (λ (x : ℕ). 1 * 2 ^ x % 2 ^ 64) e ∙ shifted (min n 12) (omega arith)
-
-pub counted_few : (n : ℕ) (f : ℕ → Bool) (c : ℕ) → c ≤ 2 ^ min n 12 → count f c ≤ 4096
-counted_few n f c l = let h : min n 12 ≤ 12 = omega arith in omega (arith, length-those f 0 c, pow_mono h)
-
-pub none_counted : (f : ℕ → Bool) → 0 ≡ count f 0
+-- those of f, as the filter finds them
+filtered : (f : ℕ → Bool) (i k : ℕ) → filter f (range_with_len i k) ≡ those f i k
 unfolding those
-none_counted f = refl
+filtered f i zero = refl
+filtered f i (suc k) = rw (add-one i) (ap (λ (l : List ℕ). cond (f i) (i ∷ l) l) (filtered f (suc i) k))
 
-module _ (n k c found r : ℕ) (below : c < 2 ^ min n 12) (sized : r ≡ size 64 c) (so_far : found ≡ count (of_size (min n 12) k) c) where
-  -- a coalition of n names has as many members of 64
-  size-names : size 64 c ≡ size (min n 12) c
-  size-names = let h : min n 12 ≤ 64 = omega arith in sym (ones_size 64 c (omega (arith, pow_mono h))) ∙ ones_size (min n 12) c below
-
-  pub counts_in_lem : r ≡ k → found + 1 ≡ count (of_size (min n 12) k) (c + 1)
-  counts_in_lem e =
-      let t : bit (of_size (min n 12) k c) ≡ 1 = ap bit (eq-eqb (size (min n 12) c) k (sym size-names ∙ sym sized ∙ e)) in
-      omega (arith, count-suc (of_size (min n 12) k) c, ap (count (of_size (min n 12) k)) (add-one c))
-
-  pub counts_out : (r ≡ k → ⊥) → found ≡ count (of_size (min n 12) k) (c + 1)
-  counts_out d =
-      let t : bit (of_size (min n 12) k c) ≡ 0 = ap bit (ne_eqb (size (min n 12) c) k (λ e. d (sized ∙ size-names ∙ e))) in
-      omega (arith, count-suc (of_size (min n 12) k) c, ap (count (of_size (min n 12) k)) (add-one c))
-
-pub all_counted : (n k c found : ℕ) → c ≡ 2 ^ n → found ≡ count (of_size n k) c → found ≡ layer n k
+-- a coalition of n names has as many members of 64
+pub counted_layer : (n k : ℕ) → length (filter (λ c. eqb (size 64 c) k) (range_with_len 0 (2 ^ min n 12))) ≡ layer (min n 12) k
 unfolding layer
-all_counted n k c found e h = h ∙ ap (count (of_size n k)) e
+counted_layer n k =
+    let few : min n 12 ≤ 64 = omega arith in
+    ap length (filtered (λ c. eqb (size 64 c) k) 0 (2 ^ min n 12))
+    ∙ count_cong (λ c. eqb (size 64 c) k) (of_size (min n 12) k) (2 ^ min n 12) (λ c below.
+    ap (λ (s : ℕ). eqb s k) (sym (ones_size 64 c (omega (arith, pow_mono few))) ∙ ones_size (min n 12) c below))
+
+pub power_fits : (n : ℕ) → 1 * 2 ^ min n 12 % 2 ^ 64 ≡ 2 ^ min n 12
+power_fits n = shifted (min n 12) (omega arith)
 
 -- ---- the largest of the layers
 
@@ -54,12 +44,8 @@ largest-suc : (f : ℕ → ℕ) (k : ℕ) → largest f (k + 1) ≡ max (largest
 unfolding largest
 largest-suc f k = ap (largest f) (add-one k)
 
-module _ (f : ℕ → ℕ) (k most found : ℕ) (so_far : most ≡ largest f k) (now : found ≡ f k) where
-  pub larger : most < found → found ≡ largest f (k + 1)
-  larger h = omega (arith, largest-suc f k)
-
-  pub not_larger : found ≤ most → most ≡ largest f (k + 1)
-  not_larger h = omega (arith, largest-suc f k)
+pub largest_more : (f : ℕ → ℕ) (k most found : ℕ) → most ≡ largest f k → found ≡ f k → max most found ≡ largest f (k + 1)
+largest_more f k most found so_far now = rw (so_far, now) (sym (largest-suc f k))
 
 pub all_largest : (n k most : ℕ) → k ≡ n + 1 → most ≡ largest (layer n) k → most ≡ largest_layer n
 unfolding largest_layer

@@ -47,43 +47,20 @@ pub fn size(coalition: u64) -> u32
     u64::count_ones(coalition)
 }
 
-// A job has at most 12 names.
-fn at_most_12(n: u64) -> u32
-    ensures { result ≡ min n 12 }
-{
-    if n < 12 { n as u32 } else { 12 }
-}
-
-// How many coalitions of n names have k members. An n over 12 is taken as 12, here and below.
+// How many coalitions of n names have k members. An n over 12 is taken as 12, here and below: a job has at most 12 names.
 pub fn layer(n: u64, k: u32) -> u32
     ensures { result ≡ layer (min n 12) k }
 {
-    let names = at_most_12(n);
-    let coalitions: u64 = 1 << names;
-    let mut found: u32 = 0;
-    let mut c: u64 = 0;
-    while c < coalitions {
-        if size(c) == k {
-            found += 1;
-        }
-        c += 1;
-    }
-    found
+    (0..1u64 << n.min(12)).filter(|c| size(*c) == k).count() as u32
 }
 
 // The largest number of coalitions of one size.
 pub fn largest_layer(n: u64) -> u32
     ensures { result ≡ largest_layer (min n 12) }
 {
-    let names = at_most_12(n);
     let mut most: u32 = 0;
-    let mut k: u32 = 0;
-    while k <= names {
-        let found = layer(n, k);
-        if most < found {
-            most = found;
-        }
-        k += 1;
+    for k in 0..n.min(12) as u32 + 1 {
+        most = most.max(layer(n, k));
     }
     most
 }

@@ -9,24 +9,24 @@ use lib.ListN.{length, drop, get_or, length-append, length-drop, drop_of_length-
 use lib.Seq.{drop-cons, drop-drop, drop-append_seam}
 use Rattle.model.specs.Terms.{Term, quorum, Terms, cons, quorate, codes, Code, whole, one, two, many, none, code_of, Front, found, stopped, onward, read_all, read_quorum, read_parts, read_front, all_read, read_term}
 use Rattle.model.specs.Refusals.{WrongLength}
-use Rattle.terms.specs.Readings.{shape_of, place_of, part_at, parts_at, term_reading}
+use Rattle.refusals.specs.Results.{done}
+use Rattle.terms.specs.Readings.{shape_of, place_of, part_at, parts_at}
 use Rattle.terms.specs.declared.Shape.{Shape}
 use Rattle.terms.specs.declared.Shape.TheVariants.{Whole, One, Two, Other}
-use Rattle.terms.specs.declared.PartReading.TheVariants.{Next, Stopped}
-use Rattle.terms.specs.declared.TermReading.TheVariants.{Accepted, Refused}
+use Rattle.model.specs.Readings.{accepted, refused}
 use Rattle.model.proofs.Reading.{Right, code_right, codes_some, front_sound, front_none, front_step, term_within}
 use Rattle.model.proofs.Refusals.{refused_one}
 
 -- what the reading says of the places, by the shape of the code
 module _ (L : ℕ) (part : List ℕ → Front Term) (cs : List ℕ) where
-  parts_whole : (m : Code) → shape_of m ≡ Whole → place_of L (read_parts part m cs) ≡ Next (L - length cs)
+  parts_whole : (m : Code) → shape_of m ≡ Whole → place_of L (read_parts part m cs) ≡ accepted (L - length cs)
   parts_whole (whole t) e = refl
   parts_whole (one f) e = cc
   parts_whole (two f) e = cc
   parts_whole many e = cc
   parts_whole none e = cc
 
-  parts_none : (n c : ℕ) (m : Code) → Right n c m → (c ≡ 0x32 → ⊥) → shape_of m ≡ Other → place_of L (read_parts part m cs) ≡ Stopped 2
+  parts_none : (n c : ℕ) (m : Code) → Right n c m → (c ≡ 0x32 → ⊥) → shape_of m ≡ Other → place_of L (read_parts part m cs) ≡ refused 2
   parts_none n c (whole t) r h e = cc
   parts_none n c (one f) r h e = cc
   parts_none n c (two f) r h e = cc
@@ -53,7 +53,7 @@ module _ (L : ℕ) (part : List ℕ → Front Term) (cs : List ℕ) where
   unfolding read_all
   parts_first m a rest h = rw h (all_place (cons a) (read_all part m rest))
 
-  parts_first_stop : (m k : ℕ) → part cs ≡ stopped k → place_of L (read_all part (suc m) cs) ≡ Stopped k
+  parts_first_stop : (m k : ℕ) → part cs ≡ stopped k → place_of L (read_all part (suc m) cs) ≡ refused k
   unfolding read_all
   parts_first_stop m k h = rw h
 
@@ -68,7 +68,7 @@ module _ (L : ℕ) (part : List ℕ → Front Term) (cs : List ℕ) where
   parts_two many e a rest h = cc
   parts_two none e a rest h = cc
 
-  parts_two_stop : (m : Code) → shape_of m ≡ Two → (k : ℕ) → part cs ≡ stopped k → place_of L (read_parts part m cs) ≡ Stopped k
+  parts_two_stop : (m : Code) → shape_of m ≡ Two → (k : ℕ) → part cs ≡ stopped k → place_of L (read_parts part m cs) ≡ refused k
   parts_two_stop (whole t) e k h = cc
   parts_two_stop (one f) e k h = cc
   parts_two_stop (two f) e k h = rw h
@@ -82,11 +82,11 @@ record Came (L p : ℕ) (r : Front Term) : Type 0 where
   is : r ≡ found term rest
   place : L - length rest ≡ p
 
-from_next : (L p : ℕ) (r : Front Term) → place_of L r ≡ Next p → Came L p r
+from_next : (L p : ℕ) (r : Front Term) → place_of L r ≡ accepted p → Came L p r
 from_next L p (found a l) e = record { term = a; rest = l; is = refl; place = cc }
 from_next L p (stopped k) e = absurd (let z : ◌≡◌ {A = ℕ} 0 1 = cc in omega arith)
 
-from_stopped : (L k : ℕ) (r : Front Term) → place_of L r ≡ Stopped k → r ≡ stopped k
+from_stopped : (L k : ℕ) (r : Front Term) → place_of L r ≡ refused k → r ≡ stopped k
 from_stopped L k (found a l) e = cc
 from_stopped L k (stopped j) e = cc
 
@@ -105,7 +105,7 @@ next_part s at n p h r =
     q.0 ∙ ap (λ (k : ℕ). drop k s) r.place
 
 -- The reading at a place past the end.
-pub part_end : (s : List ℕ) (at n : ℕ) → length s ≤ at → part_at s at n ≡ Stopped 3
+pub part_end : (s : List ℕ) (at n : ℕ) → length s ≤ at → part_at s at n ≡ refused 3
 unfolding part_at
 part_end s at n h = rw (drop_of_length-le s h, front_none n)
 
@@ -118,11 +118,11 @@ module _ (s : List ℕ) (at n : ℕ) (h : at < length s) where
   unfolding part_at
   here = ap (place_of (length s)) first_at
 
-  pub part_whole : shape_of (code_of n (get_or s at 0)) ≡ Whole → part_at s at n ≡ Next (at + 1)
+  pub part_whole : shape_of (code_of n (get_or s at 0)) ≡ Whole → part_at s at n ≡ accepted (at + 1)
   part_whole e = here ∙ parts_whole (length s) (read_front n) (drop (at + 1) s) (code_of n (get_or s at 0)) e
-      ∙ ap Next (rw (length-drop (at + 1) s) (omega arith))
+      ∙ ap accepted (rw (length-drop (at + 1) s) (omega arith))
 
-  pub part_none : (get_or s at 0 ≡ 0x32 → ⊥) → shape_of (code_of n (get_or s at 0)) ≡ Other → part_at s at n ≡ Stopped 2
+  pub part_none : (get_or s at 0 ≡ 0x32 → ⊥) → shape_of (code_of n (get_or s at 0)) ≡ Other → part_at s at n ≡ refused 2
   part_none h e = here ∙ parts_none (length s) (read_front n) (drop (at + 1) s) n (get_or s at 0) (code_of n (get_or s at 0)) (code_right n (get_or s at 0)) h e
 
   pub part_one : shape_of (code_of n (get_or s at 0)) ≡ One → part_at s at n ≡ part_at s (at + 1) n
@@ -134,12 +134,12 @@ module _ (s : List ℕ) (at n : ℕ) (h : at < length s) where
   unfolding code_of
   as_quorum e = here ∙ rw e
 
-  too_short : (l : List ℕ) → length l ≤ 1 → place_of (length s) (read_quorum (read_front n) l) ≡ Stopped 3
+  too_short : (l : List ℕ) → length l ≤ 1 → place_of (length s) (read_quorum (read_front n) l) ≡ refused 3
   too_short [] l = refl
   too_short (k ∷ []) l = refl
   too_short (k ∷ m ∷ ds) l = absurd (omega arith)
 
-  pub part_quorum_short : get_or s at 0 ≡ 0x32 → length s ≤ at + 2 → part_at s at n ≡ Stopped 3
+  pub part_quorum_short : get_or s at 0 ≡ 0x32 → length s ≤ at + 2 → part_at s at n ≡ refused 3
   part_quorum_short e l = as_quorum e ∙ too_short (drop (at + 1) s) (rw (length-drop (at + 1) s) (omega arith))
 
   both_there : at + 2 < length s → drop (at + 1) s ≡ get_or s (at + 1) 0 ∷ get_or s (at + 2) 0 ∷ drop (at + 3) s
@@ -149,7 +149,7 @@ module _ (s : List ℕ) (at n : ℕ) (h : at < length s) where
       drop-cons s (at + 1) 0 (omega arith)
       ∙ ap (λ (l : List ℕ). get_or s (at + 1) 0 ∷ l) (ap (λ (k : ℕ). drop k s) e ∙ drop-cons s (at + 2) 0 l ∙ ap (λ (k : ℕ). get_or s (at + 2) 0 ∷ drop k s) f)
 
-  pub part_quorum_refused : get_or s at 0 ≡ 0x32 → at + 2 < length s → quorate (get_or s (at + 1) 0) (get_or s (at + 2) 0) ≡ false → part_at s at n ≡ Stopped 2
+  pub part_quorum_refused : get_or s at 0 ≡ 0x32 → at + 2 < length s → quorate (get_or s (at + 1) 0) (get_or s (at + 2) 0) ≡ false → part_at s at n ≡ refused 2
   part_quorum_refused e l q = as_quorum e ∙ rw (both_there l, q)
 
   pub part_quorum : get_or s at 0 ≡ 0x32 → at + 2 < length s → quorate (get_or s (at + 1) 0) (get_or s (at + 2) 0) ≡ true → part_at s at n ≡ parts_at s (at + 3) n (get_or s (at + 2) 0)
@@ -158,11 +158,11 @@ module _ (s : List ℕ) (at n : ℕ) (h : at < length s) where
       as_quorum e
       ∙ rw (both_there l, q) (all_place (length s) (read_front n) s (quorum (get_or s (at + 1) 0)) (read_all (read_front n) (get_or s (at + 2) 0) (drop (at + 3) s)))
 
-  pub part_two_stop : shape_of (code_of n (get_or s at 0)) ≡ Two → (k : ℕ) → part_at s (at + 1) n ≡ Stopped k → part_at s at n ≡ Stopped k
+  pub part_two_stop : shape_of (code_of n (get_or s at 0)) ≡ Two → (k : ℕ) → part_at s (at + 1) n ≡ refused k → part_at s at n ≡ refused k
   unfolding part_at
   part_two_stop e k f = here ∙ parts_two_stop (length s) (read_front n) (drop (at + 1) s) (code_of n (get_or s at 0)) e k (from_stopped (length s) k (read_front n (drop (at + 1) s)) f)
 
-  pub part_two : shape_of (code_of n (get_or s at 0)) ≡ Two → (p : ℕ) → part_at s (at + 1) n ≡ Next p → part_at s at n ≡ part_at s p n
+  pub part_two : shape_of (code_of n (get_or s at 0)) ≡ Two → (p : ℕ) → part_at s (at + 1) n ≡ accepted p → part_at s at n ≡ part_at s p n
   unfolding part_at
   part_two e p f =
       let r = from_next (length s) p (read_front n (drop (at + 1) s)) f in
@@ -171,16 +171,16 @@ module _ (s : List ℕ) (at n : ℕ) (h : at < length s) where
 
 -- The reading of m parts.
 module _ (s : List ℕ) (at n : ℕ) (h : at ≤ length s) where
-  pub parts_done : parts_at s at n 0 ≡ Next at
+  pub parts_done : parts_at s at n 0 ≡ accepted at
   unfolding parts_at read_all
-  parts_done = ap Next (rw (length-drop at s) (omega arith))
+  parts_done = ap accepted (rw (length-drop at s) (omega arith))
 
-  pub parts_stop : (m k : ℕ) → 0 < m → part_at s at n ≡ Stopped k → parts_at s at n m ≡ Stopped k
+  pub parts_stop : (m k : ℕ) → 0 < m → part_at s at n ≡ refused k → parts_at s at n m ≡ refused k
   unfolding parts_at part_at
   parts_stop zero k l f = absurd (omega arith)
   parts_stop (suc m) k l f = parts_first_stop (length s) (read_front n) (drop at s) m k (from_stopped (length s) k (read_front n (drop at s)) f)
 
-  pub parts_next : (m p : ℕ) → 0 < m → part_at s at n ≡ Next p → parts_at s at n m ≡ parts_at s p n (m - 1)
+  pub parts_next : (m p : ℕ) → 0 < m → part_at s at n ≡ accepted p → parts_at s at n m ≡ parts_at s p n (m - 1)
   unfolding parts_at part_at
   parts_next zero p l f = absurd (omega arith)
   parts_next (suc m) p l f =
@@ -217,7 +217,7 @@ unfolding turn turn_at
 turn_other s at n k e h = ap turn (sym e ∙ h)
 
 -- A part that is read has at least one code, and ends within the slice.
-pub part_ahead : (s : List ℕ) (at n p : ℕ) → part_at s at n ≡ Next p → (at < p) × (p ≤ length s)
+pub part_ahead : (s : List ℕ) (at n p : ℕ) → part_at s at n ≡ accepted p → (at < p) × (p ≤ length s)
 unfolding part_at
 part_ahead s at n p f =
     let r = from_next (length s) p (read_front n (drop at s)) f in
@@ -229,30 +229,30 @@ part_ahead s at n p f =
 
 -- The answer for a whole list of codes, by its length and by the reading at place 0.
 module _ (s : List ℕ) (n : ℕ) where
-  pub term_sized : WrongLength s → term_reading (read_term n s) ≡ Refused 1
-  term_sized h = ap term_reading ((refused_one n s).1 h)
+  pub term_sized : WrongLength s → done (read_term n s) ≡ refused 1
+  term_sized h = ap done ((refused_one n s).1 h)
 
   module _ (a : 1 ≤ length s) (b : length s ≤ 64) where
-    pub term_stop : (k : ℕ) → part_at s 0 n ≡ Stopped k → term_reading (read_term n s) ≡ Refused k
+    pub term_stop : (k : ℕ) → part_at s 0 n ≡ refused k → done (read_term n s) ≡ refused k
     unfolding part_at
     term_stop k f = rw (term_within n s a b, from_stopped (length s) k (read_front n s) f)
 
-    left_over_lem : (t : Term) (rest : List ℕ) → 0 < length rest → term_reading (all_read (found t rest)) ≡ Refused 4
+    left_over_lem : (t : Term) (rest : List ℕ) → 0 < length rest → done (all_read (found t rest)) ≡ refused 4
     left_over_lem t [] h = absurd (omega arith)
     left_over_lem t (c ∷ rest) h = refl
 
-    none_left : (t : Term) (rest : List ℕ) → length rest ≡ 0 → term_reading (all_read (found t rest)) ≡ Accepted
+    none_left : (t : Term) (rest : List ℕ) → length rest ≡ 0 → done (all_read (found t rest)) ≡ accepted tt
     none_left t [] h = refl
     none_left t (c ∷ rest) h = absurd (omega arith)
 
-    pub term_more : (p : ℕ) → part_at s 0 n ≡ Next p → p < length s → term_reading (read_term n s) ≡ Refused 4
+    pub term_more : (p : ℕ) → part_at s 0 n ≡ accepted p → p < length s → done (read_term n s) ≡ refused 4
     unfolding part_at
     term_more p f h =
         let r = from_next (length s) p (read_front n s) f in
         let e : length s - length r.rest ≡ p = r.place in
         rw (term_within n s a b, r.is) (left_over_lem r.term r.rest (omega arith))
 
-    pub term_done : (p : ℕ) → part_at s 0 n ≡ Next p → length s ≤ p → term_reading (read_term n s) ≡ Accepted
+    pub term_done : (p : ℕ) → part_at s 0 n ≡ accepted p → length s ≤ p → done (read_term n s) ≡ accepted tt
     unfolding part_at
     term_done p f h =
         let r = from_next (length s) p (read_front n s) f in

@@ -19,7 +19,11 @@ use Rattle.words.specs.declared.Row.{Row}
 use Rattle.words.specs.declared.Rows.{Rows}
 use Rattle.words.specs.AnyBytes.{Taken, TakenAll, no_code, take_parts, taken, term_in}
 use Rattle.words.specs.FourWords.{RowAt, RowsAt, each_word, each_row, same_row, same_rows, row_in}
-use Rattle.words.specs.Evaluation.{Evaluated, left_over, quorum_at}
+use Rattle.std.specs.Prelude.{Some, None}
+use Rattle.terms.specs.declared.Joiner.{Joiner}
+use Rattle.terms.specs.declared.Joiner.TheVariants.{Both, Either}
+use Rattle.terms.specs.Joiners.{joiner_at}
+use Rattle.words.specs.Evaluation.{joined, projected, Evaluated, left_over, quorum_at}
 use Rattle.words.proofs.AnyBytes.{taken_end, taken_at, quorum_at_lem, no_quorum_at, all_none}
 use Rattle.words.proofs.Tallies.{Weighing, tally_done}
 use Rattle.words.proofs.FourWords.{row_none, row_all, row_both, row_either, rows_each, rows_same, rows_of}
@@ -59,9 +63,34 @@ no_code_lem c l t m =
     let r = left_over_is_none c l in
     rw (r.no_name, t, r.no_bottom, r.no_both, r.no_either, m, r.no_see, r.no_change)
 
+-- the code of a joiner, and a byte that is none
+joiner_both : (c : ℕ) → joiner_at c ≡ Some Both → c ≡ 0x30
+joiner_both c e = by (eqb c 0x30) (eqb c 0x31) refl refl e
+  where
+    by : (a b : Bool) → eqb c 0x30 ≡ a → eqb c 0x31 ≡ b → cond a (Some Both) (cond b (Some Either) None) ≡ Some Both → c ≡ 0x30
+    by true b p q e = eqb-true c 0x30 p
+    by false true p q e = cc
+    by false false p q e = cc
+
+joiner_either : (c : ℕ) → joiner_at c ≡ Some Either → c ≡ 0x31
+joiner_either c e = by (eqb c 0x30) (eqb c 0x31) refl refl e
+  where
+    by : (a b : Bool) → eqb c 0x30 ≡ a → eqb c 0x31 ≡ b → cond a (Some Both) (cond b (Some Either) None) ≡ Some Either → c ≡ 0x31
+    by true b p q e = cc
+    by false true p q e = eqb-true c 0x31 q
+    by false false p q e = cc
+
+joiner_none : (c : ℕ) → joiner_at c ≡ None → (eqb c 0x30 || eqb c 0x31) ≡ false
+joiner_none c e = by (eqb c 0x30) (eqb c 0x31) e
+  where
+    by : (a b : Bool) → cond a (Some Both) (cond b (Some Either) None) ≡ None → (a || b) ≡ false
+    by true b e = cc
+    by false true e = cc
+    by false false e = refl
+
 -- a byte that `hold` takes for no other code is left over, and a place with one is not past the end
-pub left_over_lem : (c : ℕ) → 12 ≤ c → (eqb c 0x30 || eqb c 0x31) ≡ false → (c ≡ 0x21 → ⊥) → (c ≡ 0x40 → ⊥) → (c ≡ 0x41 → ⊥) → left_over c ≡ true
-left_over_lem c l j b e f = rw (le-ltb c 12 l, j, ne_eqb c 0x21 b, ne_eqb c 0x40 e, ne_eqb c 0x41 f)
+pub left_over_lem : (c : ℕ) → 12 ≤ c → joiner_at c ≡ None → (c ≡ 0x21 → ⊥) → (c ≡ 0x40 → ⊥) → (c ≡ 0x41 → ⊥) → left_over c ≡ true
+left_over_lem c l j b e f = rw (le-ltb c 12 l, joiner_none c j, ne_eqb c 0x21 b, ne_eqb c 0x40 e, ne_eqb c 0x41 f)
 
 pub left_over_inside : (s : List ℕ) (at : ℕ) → left_over (get_or s at 0) ≡ true → at < length s
 left_over_inside s at e = ⊎_elim (λ l. l) (λ g. absurd (clash {b = left_over 0} (rw (get_or-eq_default s 0 {n = at} g) at e) refl)) (lt_or_ge at (length s))
@@ -102,15 +131,15 @@ module _ (s : List ℕ) (at g : ℕ) (h : at < length s) where
   eval_bottom x q e = rw q (eval (whole bottom) (same_rows 0xFFFF_FFFF_FFFF_FFFF) (at + 1) (ap (code_of 12) e) (rows_same g _ 0xFFFF_FFFF_FFFF_FFFF (λ s. row_all g)) refl)
 
   -- one part after the code
-  module _ (x : Rows) (m : ℕ) (p : Evaluated s (at + 1) g x m) (all : Row) (is : all ≡ same_row 0xFFFF_FFFF_FFFF_FFFF) where
-    pub eval_confidentiality : get_or s at 0 ≡ 0x40 → Evaluated s at g (record { see = x.see; change = all }) m
+  module _ (x : Rows) (m : ℕ) (p : Evaluated s (at + 1) g x m) where
+    pub eval_confidentiality : (z : Rows) → z ≡ projected confidentiality x → get_or s at 0 ≡ 0x40 → Evaluated s at g z m
     unfolding code_of held
-    eval_confidentiality e = rw is (eval (one (project confidentiality)) _ m (ap (code_of 12) e)
+    eval_confidentiality z w e = rw w (eval (one (project confidentiality)) _ m (ap (code_of 12) e)
         (rows_of g _ x.see (same_row 0xFFFF_FFFF_FFFF_FFFF) (p.held_there.row confidentiality) (row_all g)) (omega (arith, p.past)))
 
-    pub eval_integrity : get_or s at 0 ≡ 0x41 → Evaluated s at g (record { see = all; change = x.change }) m
+    pub eval_integrity : (z : Rows) → z ≡ projected integrity x → get_or s at 0 ≡ 0x41 → Evaluated s at g z m
     unfolding code_of held
-    eval_integrity e = rw is (eval (one (project integrity)) _ m (ap (code_of 12) e)
+    eval_integrity z w e = rw w (eval (one (project integrity)) _ m (ap (code_of 12) e)
         (rows_of g _ (same_row 0xFFFF_FFFF_FFFF_FFFF) x.change (row_all g) (p.held_there.row integrity)) (omega (arith, p.past)))
 
   -- two parts, the second where the first ends, whose rows an operation puts together
@@ -136,12 +165,9 @@ module _ (s : List ℕ) (at g : ℕ) (h : at < length s) where
     eval_disj e = eval_two bit_or disj (λ t u side a b. row_either g (held t side) (held u side) a b) (ap (code_of 12) e)
 
     -- both where the code is 30, and either where it is the other that has two parts
-    pub eval_join : (z : Rows) → (eqb (get_or s at 0) 0x30 || eqb (get_or s at 0) 0x31) ≡ true → z ≡ cond (eqb (get_or s at 0) 0x30) (each_row bit_and x y) (each_row bit_or x y) → Evaluated s at g z m'
-    eval_join z = by (eqb (get_or s at 0) 0x30) refl
-      where
-        by : (b : Bool) → eqb (get_or s at 0) 0x30 ≡ b → (b || eqb (get_or s at 0) 0x31) ≡ true → z ≡ cond b (each_row bit_and x y) (each_row bit_or x y) → Evaluated s at g z m'
-        by true c _ e = rw e (eval_conj (eqb-true _ 0x30 c))
-        by false c d e = rw e (eval_disj (eqb-true _ 0x31 d))
+    pub eval_join : (j : Joiner) (z : Rows) → joiner_at (get_or s at 0) ≡ Some j → z ≡ joined j x y → Evaluated s at g z m'
+    eval_join Both z e w = rw w (eval_conj (joiner_both (get_or s at 0) e))
+    eval_join Either z e w = rw w (eval_disj (joiner_either (get_or s at 0) e))
 
   -- a quorum in range, whose parts from three bytes on are all weighed
   pub eval_quorum : (see change : List ℕ) (left next : ℕ) → left ≡ 0 → quorum_at s at ≡ true

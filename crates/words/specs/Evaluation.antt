@@ -1,12 +1,15 @@
 -- Where terms are held (document 01, "Terms"), 64 coalitions in a word, four words in a row: bit j of word w is coalition 64 × w + j. Assumes nothing: these
 -- are definitions.
-use Rattle.std.specs.Prelude.{◌≡◌, Bool, true, false, not, ◌&&◌, ◌||◌, List, ℕ, ◌+◌, ◌-◌, ◌*◌, ◌^◌, ◌≤◌, ◌<◌, min, eqb, ltb, length, drop, get_or}
-use Rattle.model.specs.Sides.{Side}
+use Rattle.std.specs.Prelude.{◌≡◌, Option, Some, None, if◌then◌else◌, Bool, true, false, not, ◌&&◌, ◌||◌, List, ℕ, ◌+◌, ◌-◌, ◌*◌, ◌^◌, ◌≤◌, ◌<◌, min, eqb, ltb, length, drop, get_or}
+use Rattle.std.specs.Int.Bits.{bit_and, bit_or}
+use Rattle.model.specs.Sides.{Side, confidentiality, integrity}
 use Rattle.model.specs.Coalitions.{mark, packed}
 use Rattle.model.specs.Terms.{Term, quorate, held}
 use Rattle.words.specs.declared.Rows.{Rows}
+use Rattle.terms.specs.declared.Joiner.{Joiner}
+use Rattle.terms.specs.declared.Joiner.TheVariants.{Both, Either}
 use Rattle.words.specs.AnyBytes.{taken, term_in}
-use Rattle.words.specs.FourWords.{RowsAt}
+use Rattle.words.specs.FourWords.{RowsAt, each_row, same_row}
 
 -- word w of a term on a side
 abbrev pub held_word : Term → Side → ℕ → ℕ
@@ -40,6 +43,16 @@ pub record Evaluated (bytes : List ℕ) (at g : ℕ) (rows : Rows) (next : ℕ) 
 -- a byte that is no name, not both or either, not 21 and no side
 abbrev pub left_over : ℕ → Bool
 left_over c = not (ltb c 12 || ((eqb c 0x30 || eqb c 0x31) || (eqb c 0x21 || (eqb c 0x40 || eqb c 0x41))))
+
+-- two parts joined
+abbrev pub joined : Joiner → Rows → Rows → Rows
+joined Both p q = each_row bit_and p q
+joined Either p q = each_row bit_or p q
+
+-- a part on one side alone
+abbrev pub projected : Side → Rows → Rows
+projected confidentiality part = record { see = part.see; change = same_row 0xFFFF_FFFF_FFFF_FFFF }
+projected integrity part = record { see = same_row 0xFFFF_FFFF_FFFF_FFFF; change = part.change }
 
 -- there is a quorum's code at the place, and a k and an m in range follow it
 abbrev pub quorum_at : List ℕ → ℕ → Bool

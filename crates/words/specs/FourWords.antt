@@ -39,6 +39,13 @@ each_word op x y = record { a = op x.a y.a; b = op x.b y.b; c = op x.c y.c; d = 
 abbrev pub each_row : (ℕ → ℕ → ℕ) → Rows → Rows → Rows
 each_row op x y = record { see = each_word op x.see y.see; change = each_word op x.change y.change }
 
+-- a relation at the words of two rows and what came of them, and at rows on each side
+abbrev pub AtEachWord : (ℕ → ℕ → ℕ → Type 0) → Row → Row → Row → Type 0
+AtEachWord of x y r = of x.a y.a r.a × of x.b y.b r.b × of x.c y.c r.c × of x.d y.d r.d
+
+abbrev pub AtEachSide : (Row → Row → Row → Type 0) → Rows → Rows → Rows → Type 0
+AtEachSide of x y r = of x.see y.see r.see × of x.change y.change r.change
+
 -- c is one of f and none of h
 abbrev pub lacks : (ℕ → Bool) → (ℕ → Bool) → ℕ → Bool
 lacks f h c = f c && not (h c)
@@ -46,6 +53,10 @@ lacks f h c = f c && not (h c)
 -- the bits of the first word that are not in the second
 abbrev pub lacks_word : ℕ → ℕ → ℕ
 lacks_word x y = bit_and x (0xFFFF_FFFF_FFFF_FFFF - y)
+
+-- the same row on both sides
+abbrev pub both_sides : Row → Rows
+both_sides x = record { see = x; change = x }
 
 -- the same word four times, and on both sides
 abbrev pub same_row : ℕ → Row

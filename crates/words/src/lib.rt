@@ -1,14 +1,16 @@
 // Terms held at 256 coalitions at once (document 01, "Terms"): bit k of word j of row g is coalition 256 * g + 64 * j + k.
 #![tactic(auto)]
 
-ghost use Rattle.std.specs.Prelude.{◌≡◌, cond, ◌&&◌, ◌||◌, ◌+◌, ◌*◌, ◌^◌, ◌≤◌, ◌<◌, eqb, ltb, length, get_or};
+ghost use Rattle.std.specs.Prelude.{◌≡◌, cond, ◌&&◌, ◌||◌, ◌+◌, ◌-◌, ◌*◌, ◌^◌, ◌≤◌, ◌<◌, eqb, ltb, length, get_or};
 ghost use Rattle.std.specs.Int.Bits.{bit_and, bit_or};
 ghost use Rattle.model.specs.Sides.{confidentiality, integrity};
 ghost use Rattle.model.specs.Coalitions.{member, packed};
 ghost use Rattle.model.specs.Terms.{quorate};
 ghost use Rattle.words.specs.AnyBytes.{term_in};
-ghost use Rattle.words.specs.FourWords.{each_word, each_row, lacks_word, same_row, same_rows, empty_row, empty_rows, row_set, row_in, RowAt, Weighed};
-ghost use Rattle.words.specs.Evaluation.{coalition_word, word_count, row_count, left_over, quorum_at, Evaluated, EvaluatedTo, LowestBit};
+ghost use Rattle.words.specs.FourWords.{side_of, AtEachWord, AtEachSide, each_word, each_row, lacks_word, same_row, same_rows, both_sides, empty_row, empty_rows, row_set, row_in, RowAt, Weighed};
+ghost use Rattle.words.specs.Evaluation.{coalition_word, job_of, joined, projected, word_count, row_count, left_over, quorum_at, Evaluated, EvaluatedTo, LowestBit};
+
+use terms::Joiner;
 
 // The word of the strongest party, held nowhere, and that of the weakest, held everywhere.
 const NONE: u64 = 0;
@@ -22,6 +24,7 @@ pub enum Side {
 }
 
 // A row of a set of coalitions: its four words, lowest first.
+// Kept: an array of four words passes through memory at each call, where four words stay in registers.
 #[derive(Clone, Copy)]
 pub struct Row {
     pub a: u64,
@@ -38,7 +41,7 @@ pub struct Rows {
 }
 
 // Four times the same word.
-fn same(x: u64) -> Row
+pub fn same(x: u64) -> Row
     ensures { result ≡ same_row x }
 {
     Row {
@@ -49,13 +52,34 @@ fn same(x: u64) -> Row
     }
 }
 
-// The same word all over both sides.
-fn alike(x: u64) -> Rows
-    ensures { result ≡ same_rows x }
+// The same row on both sides.
+pub fn alike(x: Row) -> Rows
+    ensures { result ≡ both_sides x }
+{
+    Rows { see: x, change: x }
+}
+
+// What `of` makes of two rows, word by word.
+pub fn each_word<F: Fn(u64, u64) -> u64>(x: Row, y: Row, of: F) -> Row
+    requires { F.IsAlwaysCallable of }
+    ensures { AtEachWord (λ v w r. F.post of v w r) x y result }
+{
+    Row {
+        a: of(x.a, y.a),
+        b: of(x.b, y.b),
+        c: of(x.c, y.c),
+        d: of(x.d, y.d),
+    }
+}
+
+// What `of` makes of a row on each side and another.
+pub fn each_side<F: Fn(Row, Row) -> Row>(x: Rows, y: Rows, of: F) -> Rows
+    requires { F.IsAlwaysCallable of }
+    ensures { AtEachSide (λ v w r. F.post of v w r) x y result }
 {
     Rows {
-        see: same(x),
-        change: same(x),
+        see: of(x.see, y.see),
+        change: of(x.change, y.change),
     }
 }
 
@@ -63,36 +87,21 @@ fn alike(x: u64) -> Rows
 pub fn both(x: Row, y: Row) -> Row
     ensures { result ≡ each_word bit_and x y }
 {
-    Row {
-        a: x.a & y.a,
-        b: x.b & y.b,
-        c: x.c & y.c,
-        d: x.d & y.d,
-    }
+    each_word(x, y, |v, w| v & w)
 }
 
 // Those of either row.
 pub fn either(x: Row, y: Row) -> Row
     ensures { result ≡ each_word bit_or x y }
 {
-    Row {
-        a: x.a | y.a,
-        b: x.b | y.b,
-        c: x.c | y.c,
-        d: x.d | y.d,
-    }
+    each_word(x, y, |v, w| v | w)
 }
 
 // Those of the first row that are not in the second.
 pub fn without(x: Row, y: Row) -> Row
     ensures { result ≡ each_word lacks_word x y }
 {
-    Row {
-        a: x.a & !y.a,
-        b: x.b & !y.b,
-        c: x.c & !y.c,
-        d: x.d & !y.d,
-    }
+    each_word(x, y, |v, w| v & !w)
 }
 
 // The row has no coalition.
@@ -106,10 +115,7 @@ pub fn empty(x: Row) -> bool
 pub fn rest(x: Rows, gone: Rows) -> Rows
     ensures { result ≡ each_row lacks_word x gone }
 {
-    Rows {
-        see: without(x.see, gone.see),
-        change: without(x.change, gone.change),
-    }
+    each_side(x, gone, without)
 }
 
 // The rows have no coalition on either side.
@@ -123,9 +129,6 @@ pub fn none(x: Rows) -> bool
 pub fn name_word(i: u8, w: u64) -> u64
     ensures { result ≡ packed (member i) (64 * w) 64 }
 {
-    if 70 <= i {
-        return NONE;
-    }
     match i {
         0 => 0xAAAA_AAAA_AAAA_AAAA,
         1 => 0xCCCC_CCCC_CCCC_CCCC,
@@ -133,7 +136,8 @@ pub fn name_word(i: u8, w: u64) -> u64
         3 => 0xFF00_FF00_FF00_FF00,
         4 => 0xFFFF_0000_FFFF_0000,
         5 => 0xFFFF_FFFF_0000_0000,
-        _ => { if (w >> (i - 6)) % 2 == 1 { ALL } else { 0 } }
+        6..=69 => if (w >> (i - 6)) % 2 == 1 { ALL } else { NONE },
+        _ => NONE,
     }
 }
 
@@ -143,6 +147,7 @@ fn name_row(i: u8, g: u64) -> Row
     ensures { RowAt (member i) g result }
 {
     match i {
+        0..=5 => same(name_word(i, g)),
         6 => Row {
             a: NONE,
             b: ALL,
@@ -155,13 +160,7 @@ fn name_row(i: u8, g: u64) -> Row
             c: ALL,
             d: ALL,
         },
-        _ => {
-            if i < 6 {
-                same(name_word(i, g))
-            } else {
-                same(name_word(i - 2, g))
-            }
-        }
+        _ => same(name_word(i - 2, g)),
     }
 }
 
@@ -177,10 +176,7 @@ pub struct Held {
 fn is_name(codes: &[u8], at: usize) -> bool
     ensures { result ≡ (ltb at (length codes.now) && ltb (get_or codes.now at 0) 12) }
 {
-    if codes.len() <= at {
-        return false;
-    }
-    codes[at] < 12
+    matches!(codes.get(at), Some(0..=11))
 }
 
 // Row g of the name at the place.
@@ -188,32 +184,35 @@ fn hold_name(codes: &[u8], at: usize, g: u64) -> Held
     requires { (at < length codes.now) × (get_or codes.now at 0 < 12) }
     ensures { Evaluated codes.now at g result.rows result.next }
 {
-    let x = name_row(codes[at], g);
     Held {
         next: at + 1,
-        rows: Rows { see: x, change: x },
+        rows: alike(name_row(codes[at], g)),
     }
 }
 
-// Both and either, the codes that have two parts.
-fn joins(code: u8) -> bool
-    ensures { result ≡ (eqb code 0x30 || eqb code 0x31) }
+// The rows of two parts that are joined.
+fn join(joiner: Joiner, p: Rows, q: Rows) -> Rows
+    ensures { result ≡ joined joiner p q }
 {
-    code == 0x30 || code == 0x31
+    match joiner {
+        Joiner::Both => each_side(p, q, both),
+        Joiner::Either => each_side(p, q, either),
+    }
 }
 
-fn join(code: u8, p: Rows, q: Rows) -> Rows
-    ensures { result ≡ cond (eqb code 0x30) (each_row bit_and p q) (each_row bit_or p q) }
+// A term's rows with its part on one side alone: on the other the weakest party.
+fn projected(side: Side, part: Rows) -> Rows
+    ensures { result ≡ projected (side_of side) part }
 {
-    if code == 0x30 {
-        return Rows {
-            see: both(p.see, q.see),
-            change: both(p.change, q.change),
-        };
-    }
-    Rows {
-        see: either(p.see, q.see),
-        change: either(p.change, q.change),
+    match side {
+        Side::See => Rows {
+            see: part.see,
+            change: same(ALL),
+        },
+        Side::Change => Rows {
+            see: same(ALL),
+            change: part.change,
+        },
     }
 }
 
@@ -223,18 +222,18 @@ fn join(code: u8, p: Rows, q: Rows) -> Rows
 pub fn hold(codes: &[u8], at: usize, g: u64) -> Held
     ensures { Evaluated codes.now at g result.rows result.next }
 {
-    if codes.len() <= at {
+    let Some(code) = codes.get(at) else {
         return Held {
             next: at,
-            rows: alike(NONE),
+            rows: alike(same(NONE)),
         };
-    }
-    let code = codes[at];
+    };
+    let code = *code;
     if code < 12 {
         return hold_name(codes, at, g);
     }
     let next = at + 1;
-    if joins(code) {
+    if let Some(joiner) = Joiner::of(code) {
         let p = if is_name(codes, next) {
             hold_name(codes, next, g)
         } else {
@@ -245,89 +244,72 @@ pub fn hold(codes: &[u8], at: usize, g: u64) -> Held
         } else {
             hold(codes, p.next, g)
         };
-        let first = p.rows;
-        let second = q.rows;
         return Held {
             next: q.next,
-            rows: join(code, first, second),
+            rows: join(joiner, p.rows, q.rows),
         };
     }
     // What is left over goes to `hold_quorum`, so that quorums cost the other codes no test. Its result is taken apart: handed on whole, that of every code would
     // go through memory.
     match code {
         0x21 => Held {
-            next: next,
-            rows: alike(ALL),
+            next,
+            rows: alike(same(ALL)),
         },
         0x40 => {
             let p = hold(codes, next, g);
-            let part = p.rows;
-            let see = part.see;
             Held {
                 next: p.next,
-                rows: Rows {
-                    see,
-                    change: same(ALL),
-                },
+                rows: projected(Side::See, p.rows),
             }
         }
         0x41 => {
             let p = hold(codes, next, g);
-            let part = p.rows;
-            let change = part.change;
             Held {
                 next: p.next,
-                rows: Rows {
-                    see: same(ALL),
-                    change,
-                },
+                rows: projected(Side::Change, p.rows),
             }
         }
         _ => {
-            let q = hold_quorum(codes, at, g);
-            let rows = q.rows;
-            Held { next: q.next, rows }
+            let Held { next, rows } = hold_quorum(codes, at, g);
+            Held { next, rows }
         }
     }
 }
 
 // The words of row g become those of a row.
-fn put_row(words: &mut [u64; 64], g: u64, row: Row)
-    requires { g < 16 }
+pub fn put_row(words: &mut [u64], g: usize, row: Row)
+    requires { 4 * g + 4 ≤ length words.old }
     ensures { words.new ≡ row_set words.old g row }
 {
-    let at = 4 * g as usize;
-    words[at] = row.a;
-    words[at + 1] = row.b;
-    words[at + 2] = row.c;
-    words[at + 3] = row.d;
+    words[4 * g] = row.a;
+    words[4 * g + 1] = row.b;
+    words[4 * g + 2] = row.c;
+    words[4 * g + 3] = row.d;
 }
 
 // Row g of a list of words.
-fn row_at(words: &[u64; 64], g: u64) -> Row
-    requires { g < 16 }
+pub fn row_at(words: &[u64], g: usize) -> Row
+    requires { 4 * g + 4 ≤ length words.now }
     ensures { result ≡ row_in words.now g }
 {
-    let at = 4 * g as usize;
     Row {
-        a: words[at],
-        b: words[at + 1],
-        c: words[at + 2],
-        d: words[at + 3],
+        a: words[4 * g],
+        b: words[4 * g + 1],
+        c: words[4 * g + 2],
+        d: words[4 * g + 3],
     }
 }
 
 // One part more, of the row x, in a quorum's table: its row j has the coalitions that hold at least j of the parts so far.
-fn weigh(table: &mut [u64; 64], k: u64, x: Row)
+fn weigh(table: &mut [u64; 64], k: usize, x: Row)
     requires { k ≤ 12 }
     ensures { Weighed k x table.old table.new }
 {
-    let mut j = k;
-    while 0 < j {
-        let fewer = row_at(table, j - 1);
-        let enough = row_at(table, j);
-        put_row(table, j, either(enough, both(fewer, x)));
-        j -= 1;
+    for j in (0..k).rev() {
+        let fewer = row_at(table, j);
+        let enough = row_at(table, j + 1);
+        put_row(table, j + 1, either(enough, both(fewer, x)));
     }
 }
 
@@ -335,21 +317,9 @@ fn weigh(table: &mut [u64; 64], k: u64, x: Row)
 fn leaves(codes: &[u8], at: usize) -> bool
     ensures { result ≡ left_over (get_or codes.now at 0) }
 {
-    if codes.len() <= at {
-        return false;
-    }
-    let code = codes[at];
-    if code < 12 {
-        return false;
-    }
-    if joins(code) {
-        return false;
-    }
-    match code {
-        0x21 => false,
-        0x40 => false,
-        0x41 => false,
-        _ => true,
+    match codes.get(at) {
+        None | Some(0..=11 | 0x21 | 0x30 | 0x31 | 0x40 | 0x41) => false,
+        Some(_) => true,
     }
 }
 
@@ -357,23 +327,17 @@ fn leaves(codes: &[u8], at: usize) -> bool
 pub fn in_range_at(codes: &[u8], at: usize) -> bool
     ensures { result ≡ (ltb (at + 2) (length codes.now) && quorate (get_or codes.now (at + 1) 0) (get_or codes.now (at + 2) 0)) }
 {
-    if codes.len() < 3 {
-        return false;
+    match codes.get(at..) {
+        Some([_, k, m, ..]) => terms::in_range(*k, *m),
+        _ => false,
     }
-    if codes.len() - 3 < at {
-        return false;
-    }
-    terms::in_range(codes[at + 1], codes[at + 2])
 }
 
 // There is a quorum's code at the place, and a k and an m in range follow it.
 fn is_quorum(codes: &[u8], at: usize) -> bool
     ensures { result ≡ quorum_at codes.now at }
 {
-    if !in_range_at(codes, at) {
-        return false;
-    }
-    codes[at] == 0x32
+    in_range_at(codes, at) && codes[at] == 0x32
 }
 
 // Row g of the term that the bytes from `at` on stand for, where it is a quorum by weighing its parts: k, m and m parts follow the code. It calls itself on
@@ -383,34 +347,31 @@ fn hold_quorum(codes: &[u8], at: usize, g: u64) -> Held
     ensures { Evaluated codes.now at g result.rows result.next }
 {
     if !leaves(codes, at) {
-        let p = hold(codes, at, g);
-        let rows = p.rows;
-        return Held { next: p.next, rows };
+        let Held { next, rows } = hold(codes, at, g);
+        return Held { next, rows };
     }
     if !is_quorum(codes, at) {
-        let after = at + 1;
+        let next = at + 1;
         return Held {
-            next: after,
-            rows: alike(NONE),
+            next,
+            rows: alike(same(NONE)),
         };
     }
-    let k = codes[at + 1] as u64;
+    let k = codes[at + 1] as usize;
     let mut see = [0u64; 64];
     put_row(&mut see, 0, same(ALL));
     let mut change = [0u64; 64];
     put_row(&mut change, 0, same(ALL));
     let mut next = at + 3;
-    let mut left = codes[at + 2];
-    while 0 < left {
+    for _weighed in 0..codes[at + 2] {
         let p = hold_quorum(codes, next, g);
         let part = p.rows;
         weigh(&mut see, k, part.see);
         weigh(&mut change, k, part.change);
         next = p.next;
-        left -= 1;
     }
     Held {
-        next: next,
+        next,
         rows: Rows {
             see: row_at(&see, k),
             change: row_at(&change, k),
@@ -418,23 +379,21 @@ fn hold_quorum(codes: &[u8], at: usize, g: u64) -> Held
     }
 }
 
+// A number below 2^n.
+fn below_power(k: u64, n: u64) -> bool
+    ensures { result ≡ ltb k (2 ^ n) }
+{
+    64 <= n || k >> n == 0
+}
+
 // The coalitions of word w that n names have: those below 2^n.
 pub fn low_mask(n: u64, w: u64) -> u64
     ensures { result ≡ coalition_word n w }
 {
     if n < 6 {
-        if w == 0 {
-            let count: u64 = 1 << n;
-            return (1 << count) - 1;
-        }
-        return 0;
+        return if w == 0 { (1 << (1u64 << n)) - 1 } else { NONE };
     }
-    if n < 70 {
-        if (w >> (n - 6)) != 0 {
-            return 0;
-        }
-    }
-    ALL
+    if below_power(w, n - 6) { ALL } else { NONE }
 }
 
 // The coalitions of row g that n names have. Fewer than eight names have one row, of which they fill two words at most.
@@ -442,48 +401,42 @@ pub fn low_row(n: u64, g: u64) -> Row
     ensures { RowAt (λ c. ltb c (2 ^ n)) g result }
 {
     if n < 8 {
-        if g == 0 {
-            return Row {
-                a: low_mask(n, 0),
-                b: low_mask(n, 1),
-                c: NONE,
-                d: NONE,
-            };
-        }
-        return same(NONE);
-    }
-    if n < 72 {
-        if (g >> (n - 8)) != 0 {
+        if g != 0 {
             return same(NONE);
         }
+        return Row {
+            a: low_mask(n, 0),
+            b: low_mask(n, 1),
+            c: NONE,
+            d: NONE,
+        };
     }
-    same(ALL)
+    if below_power(g, n - 8) {
+        same(ALL)
+    } else {
+        same(NONE)
+    }
+}
+
+// How many parts of 2^names coalitions those of n names take.
+fn part_count(n: u64, names: u64) -> u64
+    ensures { result ≡ 2 ^ (job_of n - names) }
+{
+    1 << n.min(12).saturating_sub(names)
 }
 
 // How many words the coalitions of n names take.
 pub fn word_count(n: u64) -> u64
     ensures { result ≡ word_count n }
 {
-    if n < 6 {
-        return 1;
-    }
-    if n < 12 {
-        return 1 << (n - 6);
-    }
-    64
+    part_count(n, 6)
 }
 
 // How many rows they take.
 pub fn row_count(n: u64) -> u64
     ensures { result ≡ row_count n }
 {
-    if n < 8 {
-        return 1;
-    }
-    if n < 12 {
-        return 1 << (n - 8);
-    }
-    16
+    part_count(n, 8)
 }
 
 // All rows of a term of n names on both sides, row g in the four words from place 4 * g on: for what asks for them more than once.
@@ -491,26 +444,24 @@ pub fn evaluate(codes: &[u8], n: u64, see: &mut [u64; 64], change: &mut [u64; 64
     ensures see_side { EvaluatedTo (term_in codes.now) confidentiality (4 * row_count n) see.old see.new }
     ensures change_side { EvaluatedTo (term_in codes.now) integrity (4 * row_count n) change.old change.new }
 {
-    let count = row_count(n);
-    let mut g: u64 = 0;
-    while g < count {
+    for g in 0..row_count(n) {
         let held = hold(codes, 0, g);
         let rows = held.rows;
-        put_row(see, g, rows.see);
-        put_row(change, g, rows.change);
-        g += 1;
+        put_row(see, g as usize, rows.see);
+        put_row(change, g as usize, rows.change);
     }
-}
-
-fn wide(x: u32) -> u64
-    ensures { result ≡ x }
-{
-    x as u64
 }
 
 // The number of the lowest bit that is set; 64 where none is.
 pub fn lowest(x: u64) -> u64
     ensures { LowestBit x result }
 {
-    wide(u64::trailing_zeros(x))
+    u64::trailing_zeros(x) as u64
+}
+
+// Bit k of the word is set. Past the 64 bits there is none.
+pub fn bit_set(bits: u64, k: usize) -> bool
+    ensures { result ≡ member k bits }
+{
+    k < 64 && (bits >> k) % 2 == 1
 }

@@ -12,45 +12,44 @@ use Rattle.model.specs.Notation.{term_text, write_term}
 use Rattle.model.proofs.Texts.{rank_most}
 use Rattle.model.proofs.Bracketed.{at_most_low}
 use Rattle.model.proofs.Notation.{accepted_long}
-use Rattle.terms.specs.Readings.{term_reading}
-use Rattle.terms.specs.declared.TermReading.TheVariants as reader
-use Rattle.terms.proofs.Accepted.{AcceptedTerm, accepted_term, refused_term}
+use Rattle.model.specs.Readings.{refused}
+use Rattle.refusals.specs.declared.TermRefusal.{TermRefusal}
+use Rattle.refusals.specs.declared.Refusal.TheVariants.{Term as RefusedTerm, Names, TextLength}
+use Rattle.refusals.specs.Numbers.{term_number}
+use Rattle.refusals.specs.Results.{outcome_of}
+use Rattle.refusals.proofs.Results.{Accepted}
+use Rattle.std.specs.Prelude.{Ok, Err}
 use Rattle.words.specs.AnyBytes.{term_in}
 use Rattle.words.proofs.AnyBytes.{term_in_lem}
-use Rattle.notation.specs.Reading.{outcome_of}
-use Rattle.notation.specs.declared.Noted.TheVariants.{Written, Refused}
 use Rattle.writing.specs.Writing.{within, Wrote}
 
 module _ (n : ℕ) (cs before : List ℕ) where
-  pub term_7 : (n < 1) ⊎ (12 < n) → outcome_of (Refused 7) before ≡ write_term n cs before
+  pub term_7 : (n < 1) ⊎ (12 < n) → outcome_of (Err Names) before ≡ write_term n cs before
   unfolding write_term term_text
   term_7 (inl h) = rw (lt-leb 1 n h)
   term_7 (inr h) = rw (le-leb 1 n (omega arith), lt-leb n 12 h)
 
   module _ (some : 1 ≤ n) (few : n ≤ 12) where
-    pub term_81 : (length before ≡ 256 → ⊥) → outcome_of (Refused 81) before ≡ write_term n cs before
+    pub term_81 : (length before ≡ 256 → ⊥) → outcome_of (Err TextLength) before ≡ write_term n cs before
     unfolding write_term term_text
     term_81 h = rw (le-leb 1 n some, le-leb n 12 few, ne_eqb (length before) 256 h)
 
     module _ (e : length before ≡ 256) where
-      pub term_1_to_4 : (k : ℕ) → term_reading (read_term n cs) ≡ reader.Refused k → outcome_of (Refused k) before ≡ write_term n cs before
+      pub term_1_to_4 : (why : TermRefusal) → read_term n cs ≡ refused (term_number why) → outcome_of (Err (RefusedTerm why)) before ≡ write_term n cs before
       unfolding write_term term_text
-      term_1_to_4 k h = rw (le-leb 1 n some, le-leb n 12 few, eq-eqb (length before) 256 e, refused_term n cs k h)
+      term_1_to_4 why h = rw (le-leb 1 n some, le-leb n 12 few, eq-eqb (length before) 256 e, h)
 
-      module _ (h : term_reading (read_term n cs) ≡ reader.Accepted) where
-        abbrev is : AcceptedTerm n cs
-        is = accepted_term n cs h
-
+      module _ (is : Accepted (read_term n cs)) where
         -- what the bytes stand for is the term that was read, and around it there are no brackets
-        same_text : flat (within 2 (term_in cs)) ≡ flat (fewest is.term)
-        same_text = ap (λ (t : Term). flat (within 2 t)) (term_in_lem n cs is.term is.is) ∙ ap flat (at_most_low 2 (fewest is.term) (rank_most (fewest is.term)))
+        same_text : flat (within 2 (term_in cs)) ≡ flat (fewest is.value)
+        same_text = ap (λ (t : Term). flat (within 2 t)) (term_in_lem n cs is.value is.is) ∙ ap flat (at_most_low 2 (fewest is.value) (rank_most (fewest is.value)))
 
         pub term_room : 0 + length (flat (within 2 (term_in cs))) ≤ length before
-        term_room = omega (arith, ap length same_text, accepted_long n cs is.term is.is)
+        term_room = omega (arith, ap length same_text, accepted_long n cs is.value is.is)
 
-        pub term_text_lem : (after : List ℕ) (next end : ℕ) → Wrote cs 0 2 before after 0 next end → outcome_of (Written end) after ≡ write_term n cs before
+        pub term_text_lem : (after : List ℕ) (next end : ℕ) → Wrote cs 0 2 before after 0 next end → outcome_of (Ok end) after ≡ write_term n cs before
         unfolding write_term term_text
         term_text_lem after next end w =
-            let z : 0 + length (flat (within 2 (term_in cs))) ≡ length (flat (fewest is.term)) = omega (arith, ap length same_text) in
+            let z : 0 + length (flat (within 2 (term_in cs))) ≡ length (flat (fewest is.value)) = omega (arith, ap length same_text) in
             rw (le-leb 1 n some, le-leb n 12 few, eq-eqb (length before) 256 e, is.is)
-            (ap₂ (λ (j : ℕ) (r : List ℕ). outcome_of (Written j) r) (w.written.ends ∙ z) (w.written.text ∙ ap₂ (λ (f : List ℕ) (k : ℕ). f ++ drop k before) same_text z))
+            (ap₂ (λ (j : ℕ) (r : List ℕ). outcome_of (Ok j) r) (w.written.ends ∙ z) (w.written.text ∙ ap₂ (λ (f : List ℕ) (k : ℕ). f ++ drop k before) same_text z))

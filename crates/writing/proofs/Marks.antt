@@ -1,5 +1,5 @@
 -- What a code is on paper, by what it asks for: laws of the term that the bytes from a place on stand for. Assumes nothing.
-use Prim.Native.Nat.{ℕ, suc, ◌+◌, ◌<◌}
+use Prim.Native.Nat.{ℕ, suc, ◌+◌, ◌-◌, ◌<◌}
 use native.Mathlib.Numerals.{add-one}
 use mathlib.Core.Path.{◌≡◌, refl, sym, ap, ◌∙◌}
 use mathlib.Core.Bool.{Bool, true, false, cond}
@@ -8,13 +8,15 @@ use lib.Dec.{eqb, ltb}
 use lib.ListN.{length, drop, get_or}
 use lib.Seq.{drop-cons, drop-drop}
 use Rattle.model.specs.Terms.{Term, name, Code, whole, one, two, many, none, code_of}
-use Rattle.model.specs.Texts.{flat, rank, fewest}
+use Rattle.model.specs.Texts.{joiner, join_rank, flat, rank, fewest}
 use Rattle.model.proofs.Reading.{Right, code_right}
 use Rattle.words.specs.AnyBytes.{Taken, no_code, take_parts, taken, term_in}
 use Rattle.words.proofs.AnyBytes.{taken_step}
+use Rattle.terms.specs.declared.Joiner.{Joiner}
+use Rattle.terms.specs.Joiners.{kind}
 use Rattle.writing.specs.Writing.{mark_of, within}
 use Rattle.writing.specs.declared.Mark.{Mark}
-use Rattle.writing.specs.declared.Mark.TheVariants.{Whole, Sign, Joiner, Quorum}
+use Rattle.writing.specs.declared.Mark.TheVariants.{Whole, Sign, Between, Quorum}
 
 -- the mark shows what the code asks for
 abbrev Shown : Mark → Code → Type 0
@@ -28,11 +30,11 @@ Shown (Sign c) (one f) = (p : Term) → (flat (fewest (f p)) ≡ flat (within 0 
 Shown (Sign c) (two f) = ⊥
 Shown (Sign c) many = ⊥
 Shown (Sign c) none = ⊥
-Shown (Joiner c own under) (whole t) = ⊥
-Shown (Joiner c own under) (one f) = ⊥
-Shown (Joiner c own under) (two f) = (p q : Term) → (flat (fewest (f p q)) ≡ flat (within own p) ++ (c ∷ flat (within under q))) × (rank (fewest (f p q)) ≡ own)
-Shown (Joiner c own under) many = ⊥
-Shown (Joiner c own under) none = ⊥
+Shown (Between j) (whole t) = ⊥
+Shown (Between j) (one f) = ⊥
+Shown (Between j) (two f) = (p q : Term) → (flat (fewest (f p q)) ≡ flat (within (join_rank (kind j)) p) ++ (joiner (kind j) ∷ flat (within (join_rank (kind j) - 1) q))) × (rank (fewest (f p q)) ≡ join_rank (kind j))
+Shown (Between j) many = ⊥
+Shown (Between j) none = ⊥
 Shown Quorum (whole t) = ⊥
 Shown Quorum (one f) = ⊥
 Shown Quorum (two f) = ⊥
@@ -107,11 +109,11 @@ module _ (bytes : List ℕ) (at : ℕ) (h : at < length bytes) where
   is_signed c many s e = absurd s
   is_signed c none s e = absurd s
 
-  is_joined : (c own under next : ℕ) (x : Code) → Shown (Joiner c own under) x → taken (drop at bytes) ≡ take_parts taken x (drop (at + 1) bytes)
-      → next ≡ at + 1 + (taken (drop (at + 1) bytes)).size → IsJoined bytes at c own under next
-  is_joined c own under next (whole t) s e f = absurd s
-  is_joined c own under next (one g) s e f = absurd s
-  is_joined c own under next (two g) s e f =
+  is_joined : (j : Joiner) (next : ℕ) (x : Code) → Shown (Between j) x → taken (drop at bytes) ≡ take_parts taken x (drop (at + 1) bytes)
+      → next ≡ at + 1 + (taken (drop (at + 1) bytes)).size → IsJoined bytes at (joiner (kind j)) (join_rank (kind j)) (join_rank (kind j) - 1) next
+  is_joined j next (whole t) s e f = absurd s
+  is_joined j next (one g) s e f = absurd s
+  is_joined j next (two g) s e f =
       let d : drop (taken (drop (at + 1) bytes)).size (drop (at + 1) bytes) ≡ drop next bytes = drop-drop (taken (drop (at + 1) bytes)).size (at + 1) bytes ∙ ap (λ (k : ℕ). drop k bytes) (sym f) in
       let k = s (term_in (drop (at + 1) bytes)) (term_in (drop next bytes)) in
       record {
@@ -119,8 +121,8 @@ module _ (bytes : List ℕ) (at : ℕ) (h : at < length bytes) where
         own_rank = ranks e ∙ ap (λ (l : List ℕ). rank (fewest (g (term_in (drop (at + 1) bytes)) (term_in l)))) d ∙ k.1;
         size = sizes e ∙ ap (λ (l : List ℕ). suc ((taken (drop (at + 1) bytes)).size + (taken l).size)) d;
       }
-  is_joined c own under next many s e f = absurd s
-  is_joined c own under next none s e f = absurd s
+  is_joined j next many s e f = absurd s
+  is_joined j next none s e f = absurd s
 
   pub whole_at : (c : ℕ) → mark_of (get_or bytes at 0) ≡ Whole c → IsWhole bytes at c
   whole_at c m = is_whole c (code_of 12 (get_or bytes at 0)) (rw m at (code_shown (get_or bytes at 0))) taken_at
@@ -128,8 +130,8 @@ module _ (bytes : List ℕ) (at : ℕ) (h : at < length bytes) where
   pub signed_at : (c : ℕ) → mark_of (get_or bytes at 0) ≡ Sign c → IsSigned bytes at c
   signed_at c m = is_signed c (code_of 12 (get_or bytes at 0)) (rw m at (code_shown (get_or bytes at 0))) taken_at
 
-  pub joined_at : (c own under next : ℕ) → mark_of (get_or bytes at 0) ≡ Joiner c own under → next ≡ at + 1 + (taken (drop (at + 1) bytes)).size → IsJoined bytes at c own under next
-  joined_at c own under next m f = is_joined c own under next (code_of 12 (get_or bytes at 0)) (rw m at (code_shown (get_or bytes at 0))) taken_at f
+  pub joined_at : (j : Joiner) (next : ℕ) → mark_of (get_or bytes at 0) ≡ Between j → next ≡ at + 1 + (taken (drop (at + 1) bytes)).size → IsJoined bytes at (joiner (kind j)) (join_rank (kind j)) (join_rank (kind j) - 1) next
+  joined_at j next m f = is_joined j next (code_of 12 (get_or bytes at 0)) (rw m at (code_shown (get_or bytes at 0))) taken_at f
 
 -- only a quorum's code has its mark
 pub quorum_code : (c : ℕ) → mark_of c ≡ Quorum → c ≡ 0x32

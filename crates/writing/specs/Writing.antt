@@ -3,8 +3,9 @@ use Rattle.std.specs.Prelude.{ℕ, ◌+◌, ◌≡◌, cond, List, [], ◌∷◌
 use Rattle.model.specs.Terms.{Term}
 use Rattle.model.specs.Texts.{Tree, Trees, flat, flat_all, at_most, fewest, fewest_all}
 use Rattle.words.specs.AnyBytes.{taken_all, taken, term_in}
+use Rattle.terms.specs.declared.Joiner.TheVariants.{Both, Either}
 use Rattle.writing.specs.declared.Mark.{Mark}
-use Rattle.writing.specs.declared.Mark.TheVariants.{Whole, Sign, Joiner, Quorum}
+use Rattle.writing.specs.declared.Mark.TheVariants.{Whole, Sign, Between, Quorum}
 
 -- what a code is on paper, by the order of the codes in document 01; what is no code stands for the strongest party
 unfoldable pub mark_of : ℕ → Mark
@@ -12,8 +13,8 @@ mark_of c =
     cond (ltb c 12) (Whole (0x61 + c))
     (cond (eqb c 0x20) (Whole 0x2A)
     (cond (eqb c 0x21) (Whole 0x5F)
-    (cond (eqb c 0x30) (Joiner 0x26 1 0)
-    (cond (eqb c 0x31) (Joiner 0x7C 2 1)
+    (cond (eqb c 0x30) (Between Both)
+    (cond (eqb c 0x31) (Between Either)
     (cond (eqb c 0x32) Quorum
     (cond (eqb c 0x40) (Sign 0x3E)
     (cond (eqb c 0x41) (Sign 0x3C) (Whole 0x2A))))))))

@@ -1,25 +1,27 @@
 // Terms on paper (document 02, K1 and K4): terms are written as texts.
 #![tactic(auto)]
 
-ghost use Rattle.std.specs.Prelude.{◌≡◌, ◌+◌, ◌≤◌, ◌<◌, length, drop, get_or};
+ghost use Rattle.std.specs.Prelude.{◌≡◌, ◌+◌, ◌-◌, ◌≤◌, ◌<◌, length, drop, get_or};
 ghost use Rattle.model.specs.Texts.{decimal, flat, flat_all};
 ghost use Rattle.model.specs.Notation.{write_term};
 ghost use Rattle.words.specs.AnyBytes.{term_in};
-ghost use Rattle.notation.specs.Reading.{outcome_of};
+ghost use Rattle.model.specs.Texts.{join_rank};
+ghost use Rattle.refusals.specs.Results.{outcome_of};
+ghost use Rattle.terms.specs.Joiners.{kind};
 ghost use Rattle.writing.specs.Writing.{mark_of, bracketed, within, places_in, Put, Wrote, WrotePlaces};
 
-use notation::Noted;
-use terms::TermReading;
+use refusals::Refusal;
+use terms::Joiner;
 
 // What a code is on paper.
-#[derive(Clone, Copy)]
+#[derive(Clone, Copy, Debug, PartialEq, Eq)]
 enum Mark {
     // A name, * or _.
     Whole(u8),
     // > or <, after the part.
     Sign(u8),
-    // & or |, between the parts; the rank of the list, which its left part may have, and that of its right part.
-    Joiner(u8, u8, u8),
+    // & or |, between the parts.
+    Between(Joiner),
     Quorum,
 }
 
@@ -27,14 +29,12 @@ enum Mark {
 fn mark_of(code: u8) -> Mark
     ensures { result ≡ mark_of code }
 {
-    if code < 12 {
-        return Mark::Whole(b'a' + code);
-    }
     match code {
+        0..=11 => Mark::Whole(b'a' + code),
         0x20 => Mark::Whole(b'*'),
         0x21 => Mark::Whole(b'_'),
-        0x30 => Mark::Joiner(b'&', 1, 0),
-        0x31 => Mark::Joiner(b'|', 2, 1),
+        0x30 => Mark::Between(Joiner::Both),
+        0x31 => Mark::Between(Joiner::Either),
         0x32 => Mark::Quorum,
         0x40 => Mark::Sign(b'>'),
         0x41 => Mark::Sign(b'<'),
@@ -42,8 +42,18 @@ fn mark_of(code: u8) -> Mark
     }
 }
 
+// The rank that the right part of a list may have: its left part may have the list's own.
+fn right_rank(joiner: Joiner) -> u8
+    ensures { result ≡ join_rank (kind joiner) - 1 }
+{
+    match joiner {
+        Joiner::Both => 0,
+        Joiner::Either => 1,
+    }
+}
+
 // Where writing stands: the next code, and the next character.
-#[derive(Clone, Copy)]
+#[derive(Clone, Copy, Debug, PartialEq, Eq)]
 struct Place {
     next: usize,
     to: usize,
@@ -95,8 +105,7 @@ fn write_quorum(codes: &[u8], at: usize, text: &mut [u8], to: usize) -> Place
     requires { (at < length codes.now) × (get_or codes.now at 0 ≡ 0x32) × (to + length (flat (within 0 (term_in (drop at codes.now)))) ≤ length text.old) }
     ensures { Wrote codes.now at 0 text.old text.new to result.next result.to }
 {
-    let fits = words::in_range_at(codes, at);
-    if !fits {
+    if !words::in_range_at(codes, at) {
         text[to] = b'*';
         return Place {
             next: at + 1,
@@ -129,8 +138,7 @@ fn write_part(codes: &[u8], at: usize, rank: u8, text: &mut [u8], to: usize) -> 
             to: to + 1,
         };
     }
-    let mark = mark_of(codes[at]);
-    match mark {
+    match mark_of(codes[at]) {
         Mark::Whole(c) => {
             text[to] = c;
             Place {
@@ -147,12 +155,13 @@ fn write_part(codes: &[u8], at: usize, rank: u8, text: &mut [u8], to: usize) -> 
                 to: end + 1,
             }
         }
-        Mark::Joiner(c, own, under) => {
+        Mark::Between(joiner) => {
+            let own = joiner.rank();
             let first = put_bracket(b'(', own, rank, text, to);
             let left = write_part(codes, at + 1, own, text, first);
             let middle = left.to;
-            text[middle] = c;
-            let right = write_part(codes, left.next, under, text, middle + 1);
+            text[middle] = joiner.mark();
+            let right = write_part(codes, left.next, right_rank(joiner), text, middle + 1);
             let end = put_bracket(b')', own, rank, text, right.to);
             Place {
                 next: right.next,
@@ -163,20 +172,17 @@ fn write_part(codes: &[u8], at: usize, rank: u8, text: &mut [u8], to: usize) -> 
     }
 }
 
-// Takes n, a term and a buffer of 256 bytes, for its text. Later bytes keep their content, and a refused call leaves all.
-pub fn write_term(n: u64, term: &[u8], text: &mut [u8]) -> Noted
+// Takes n, a term and a buffer of 256 bytes, for its text, and gives how many they are. Later bytes keep their content, and a refused call leaves all.
+pub fn write_term(n: u64, term: &[u8], text: &mut [u8]) -> Result<usize, Refusal>
     ensures { outcome_of result text.new ≡ write_term n term.now text.old }
 {
     if n < 1 || 12 < n {
-        return Noted::Refused(7);
+        return Err(Refusal::Names);
     }
     if text.len() != 256 {
-        return Noted::Refused(81);
+        return Err(Refusal::TextLength);
     }
-    let reading = terms::read_term(term, n);
-    let TermReading::Accepted = reading else {
-        return Noted::Refused(terms::term_refusal(reading));
-    };
+    terms::read_term(term, n).map_err(Refusal::Term)?;
     let end = write_part(term, 0, 2, text, 0);
-    Noted::Written(end.to)
+    Ok(end.to)
 }

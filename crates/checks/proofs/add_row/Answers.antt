@@ -12,13 +12,13 @@ same_at : (j : ℕ) (s l now : List ℕ) → now ≡ added j s l → get_or now 
 same_at j s l now e = ap (λ (x : List ℕ). get_or x j 0) e ∙ added_at j s l
 
 pub loop-j-init : goal.loop-j-init
-loop-j-init c = (omega arith, unfold added in refl, unfold added in refl)
+loop-j-init c = (unfold added in refl, unfold added in refl)
 
 pub overflow_add-more : goal.overflow_add-more
 overflow_add-more c =
     let l = c.loop-j in
     let a = c.args in
-    omega (arith, c.type_inv.row l.j, same_at l.j a.sums.now a.row.now l.sums l.invariant.1, c.requires.0.sums_most l.j)
+    omega (arith, c.type_inv.row l.j, same_at l.j a.sums.now a.row.now l.sums l.invariant.0, c.requires.0.sums_most l.j)
 
 pub overflow_add-runs : goal.overflow_add-runs
 overflow_add-runs c =
@@ -27,9 +27,9 @@ overflow_add-runs c =
     let k = c.requires.0 in
     omega (
       arith,
-      same_at l.j a.sums.now a.row.now l.sums l.invariant.1,
+      same_at l.j a.sums.now a.row.now l.sums l.invariant.0,
       k.sums_most l.j,
-      same_at l.j a.runs.now a.sums.now l.runs l.invariant.2,
+      same_at l.j a.runs.now a.sums.now l.runs l.invariant.1,
       k.runs_most l.j,
     )
 
@@ -38,8 +38,7 @@ loop-j-preserved c =
     let l = c.loop-j in
     let a = c.args in
     let k = c.requires.0 in
-    let e = same_at l.j a.sums.now a.row.now l.sums l.invariant.1 in (
-      omega arith,
-      added_more l.j a.sums.now a.row.now l.sums (omega (arith, k.sums_many)) (omega (arith, c.requires.1)) l.invariant.1,
-      rw e (added_more l.j a.runs.now a.sums.now l.runs (omega (arith, k.runs_many)) (omega (arith, k.sums_many)) l.invariant.2),
+    let e = same_at l.j a.sums.now a.row.now l.sums l.invariant.0 in (
+      added_more l.j a.sums.now a.row.now l.sums (omega (arith, k.sums_many)) (omega (arith, c.requires.1)) l.invariant.0,
+      rw e (added_more l.j a.runs.now a.sums.now l.runs (omega (arith, k.runs_many)) (omega (arith, k.sums_many)) l.invariant.1),
     )

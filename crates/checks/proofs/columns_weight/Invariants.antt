@@ -17,6 +17,3 @@ pub record From (sums runs : List ℕ) (run sum j : ℕ) : Type 0 where
 
 abbrev pub invariant-loop-column : goal.invariant-loop-column
 invariant-loop-column l = From l.sums l.runs l.run l.sum l.column
-
-abbrev pub decreases-loop-column : goal.decreases-loop-column
-decreases-loop-column l = l.column

@@ -1,4 +1,4 @@
-use Prim.Native.Nat.{ℕ, suc, ◌+◌, ◌≤◌}
+use Prim.Native.Nat.{ℕ, suc, ◌+◌, ◌*◌, ◌≤◌}
 use native.Mathlib.Omega.{arith}
 use mathlib.Core.Path.{refl, ◌∙◌}
 use mathlib.Core.List.{List}
@@ -11,37 +11,37 @@ use Rattle.checks.proofs.front_weight.Goals as goal
 bytes_from : (at : ℕ) (l : List ℕ) → ((k : ℕ) → get_or l k 0 ≤ 255) → (j : ℕ) → get_or (drop at l) j 0 ≤ 255
 bytes_from at l bytes j = rw get_or-drop (bytes (at + j))
 
-pub loop-at-init : goal.loop-at-init
-loop-at-init c = unfold sums_of runs_of in record { rows = 0; place = refl; sums_are = refl; runs_are = refl }
+pub loop-row-init : goal.loop-row-init
+loop-row-init c = unfold sums_of runs_of in record { rows = 0; place = refl; sums_are = refl; runs_are = refl }
 
 pub add_row-requires : goal.add_row-requires
 add_row-requires c =
-    let l = c.loop-at in
+    let l = c.loop-row in
     let i = l.invariant in
     let block = c.args.block.now in
-    (rw (i.sums_are, i.runs_are) (columns 15 i.rows (drop l.at block) (omega arith) (omega arith) (bytes_from l.at block (λ k. omega (arith, c.type_inv.block k)))), simp (length-take, length-drop) (omega arith))
+    (rw (i.sums_are, i.runs_are) (columns 15 i.rows (drop (16 * l.row) block) (omega arith) (omega arith) (bytes_from (16 * l.row) block (λ k. omega (arith, c.type_inv.block k)))), simp (length-take, length-drop) (omega arith))
 
-pub loop-at-preserved : goal.loop-at-preserved
-loop-at-preserved c =
-    let l = c.loop-at in
+pub loop-row-preserved : goal.loop-row-preserved
+loop-row-preserved c =
+    let l = c.loop-row in
     let i = l.invariant in
     let block = c.args.block.now in
     record {
       rows = suc i.rows;
       place = omega arith;
-      sums_are = c.add_row.ensures.0 ∙ sums_more i.rows l.at block l.sums l.runs (omega arith) i.sums_are i.runs_are;
-      runs_are = c.add_row.ensures.1 ∙ runs_more i.rows l.at block l.sums l.runs (omega arith) i.sums_are i.runs_are;
+      sums_are = c.add_row.ensures.0 ∙ sums_more i.rows l.row block l.sums l.runs (omega arith) i.sums_are i.runs_are;
+      runs_are = c.add_row.ensures.1 ∙ runs_more i.rows l.row block l.sums l.runs (omega arith) i.sums_are i.runs_are;
     }
 
 pub columns_weight-requires : goal.columns_weight-requires
 columns_weight-requires c =
-    let l = c.loop-at in
+    let l = c.loop-row in
     let i = l.invariant in
     let block = c.args.block.now in
-    rw (i.sums_are, i.runs_are) (columns 16 i.rows (drop l.at block) (omega arith) (omega arith) (bytes_from l.at block (λ k. omega (arith, c.type_inv.block k))))
+    rw (i.sums_are, i.runs_are) (columns 16 i.rows (drop (16 * l.row) block) (omega arith) (omega arith) (bytes_from (16 * l.row) block (λ k. omega (arith, c.type_inv.block k))))
 
 pub returns : goal.returns
 returns c =
-    let l = c.loop-at in
+    let l = c.loop-row in
     let i = l.invariant in
-    c.columns_weight.ensures ∙ front_weight i.rows l.at c.args.block.now l.sums l.runs (omega arith) i.place c.requires i.sums_are i.runs_are
+    c.columns_weight.ensures ∙ front_weight i.rows (16 * l.row) c.args.block.now l.sums l.runs (omega arith) (omega arith) c.requires i.sums_are i.runs_are

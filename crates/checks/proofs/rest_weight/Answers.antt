@@ -15,7 +15,7 @@ loop-i-preserved c =
     let here : l.i + 256 + 1 ≡ l.i + 257 = omega arith in
     let next : l.i + 1 + 256 ≡ l.i + 257 = omega arith in
     let split = rw here at (weight_next rest l.i (omega arith) (l.i + 256)) in
-    (omega arith, omega (arith, product), rw next (omega arith))
+    (omega (arith, product), rw next (omega arith))
 
 pub returns : goal.returns
 returns c =

@@ -12,13 +12,13 @@ use Rattle.checks.proofs.weight.Goals as goal
 whole : (block : List ℕ) (front rest : ℕ) → 510 ≤ length block → front ≡ weighted 0 (take 256 block) → rest ≡ weighted 256 (take 254 (drop 256 block)) → front + rest ≡ weighted 0 (take 510 block)
 whole block front rest h f r = rw (f, r) (sym (weight_parts 256 254 block (omega arith)))
 
-pub returns-then-unused : goal.returns-then-unused
-returns-then-unused c =
+pub returns-then-filler : goal.returns-then-filler
+returns-then-filler c =
     omega (
       arith,
       c.front_weight-front.ensures,
       weight_parts 256 254 c.args.block.now (omega arith),
-      weighted-zeros 256 _ (sym c.filler-unused.ensures ∙ c.if-unused.true),
+      weighted-zeros 256 _ (sym c.filler.ensures ∙ c.if-filler.true),
     )
 
 pub overflow_add-result : goal.overflow_add-result

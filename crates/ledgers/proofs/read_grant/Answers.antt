@@ -1,42 +1,29 @@
 -- The form, one term after another, and then the days.
-use Prim.Native.Nat.{ℕ}
-use mathlib.Core.Path.{◌≡◌, refl, sym, ◌∙◌}
-use mathlib.Core.Bool.{true}
-use mathlib.Core.List.{List}
-use Rattle.model.specs.Terms.{read_term}
-use Rattle.model.specs.Ledgers.{grant_form, p_bytes, q_bytes, label_bytes, first_day, last_day, read_grant}
-use Rattle.terms.specs.Readings.{term_reading}
-use Rattle.terms.specs.declared.TermReading.{TermReading}
-use Rattle.ledgers.specs.Readings.{grant_reading, days_reading}
-use Rattle.ledgers.proofs.Readers.{on_term, grant_answer}
+use mathlib.Core.Path.{sym, ◌∙◌}
+use Rattle.std.proofs.lemmas.Result.{err_from_is_err_and}
+use Rattle.model.specs.Ledgers.{read_grant}
+use Rattle.ledgers.proofs.Readers.{grant_p, grant_q, grant_label, grant_days}
 use Rattle.ledgers.proofs.read_grant.Goals as goal
 
--- by the answers for the three terms
-answer : (n : ℕ) (block : List ℕ) (p q label : TermReading) → grant_form block ≡ true
-    → term_reading (read_term n (p_bytes block)) ≡ p → term_reading (read_term n (q_bytes block)) ≡ q → term_reading (read_term n (label_bytes block)) ≡ label
-    → grant_reading (read_grant n block) ≡ on_term p (on_term q (on_term label (days_reading (first_day block) (last_day block))))
-answer n block p q label form a b d = grant_answer n block form ∙ rw (a, b, d)
-
-pub returns-then-not-form : goal.returns-then-not-form
+pub returns-then-not-grant_form : goal.returns-then-not-grant_form
 unfolding read_grant
-returns-then-not-form c = simp (sym c.grant_form-form.ensures ∙ c.if-not-form.true)
+returns-then-not-grant_form c = simp (sym c.grant_form.ensures ∙ c.if-not-grant_form.true)
 
-pub returns-in_default : goal.returns-in_default
-returns-in_default c =
-    sym (answer c.args.n c.args.block.now _ _ _ (sym c.grant_form-form.ensures ∙ c.if-not-form.false) (sym c.read_at-p.ensures ∙ c.in_default.is) refl refl)
+pub returns-in_err-read_at : goal.returns-in_err-read_at
+returns-in_err-read_at c =
+    let p = err_from_is_err_and c.from_residual.result c.from_residual.ensures.1 in
+    rw (p.1, p.2) (grant_p _ _ (sym c.grant_form.ensures ∙ c.if-not-grant_form.false) _ c.in_err-read_at.ensures)
 
-pub returns-in_default-q : goal.returns-in_default-q
-returns-in_default-q c =
-    sym (answer c.args.n c.args.block.now _ _ _ (sym c.grant_form-form.ensures ∙ c.if-not-form.false)
-    (sym c.read_at-p.ensures ∙ c.in-Accepted.is) (sym c.read_at-q.ensures ∙ c.in_default-q.is) refl)
+pub returns-in_err-read_at-2 : goal.returns-in_err-read_at-2
+returns-in_err-read_at-2 c =
+    let p = err_from_is_err_and c.from_residual-in_err-read_at-2.result c.from_residual-in_err-read_at-2.ensures.1 in
+    rw (p.1, p.2) (grant_q _ _ (sym c.grant_form.ensures ∙ c.if-not-grant_form.false) _ _ c.in_ok-read_at.ensures c.in_err-read_at-2.ensures)
 
-pub returns-in_default-label : goal.returns-in_default-label
-returns-in_default-label c =
-    sym (answer c.args.n c.args.block.now _ _ _ (sym c.grant_form-form.ensures ∙ c.if-not-form.false)
-    (sym c.read_at-p.ensures ∙ c.in-Accepted.is) (sym c.read_at-q.ensures ∙ c.in-Accepted-q.is) (sym c.read_at-label.ensures ∙ c.in_default-label.is))
+pub returns-in_err-read_at-3 : goal.returns-in_err-read_at-3
+returns-in_err-read_at-3 c =
+    let p = err_from_is_err_and c.from_residual-in_err-read_at-3.result c.from_residual-in_err-read_at-3.ensures.1 in
+    rw (p.1, p.2) (grant_label _ _ (sym c.grant_form.ensures ∙ c.if-not-grant_form.false) _ _ _ c.in_ok-read_at.ensures c.in_ok-read_at-2.ensures c.in_err-read_at-3.ensures)
 
 pub returns : goal.returns
 returns c =
-    c.read_days.ensures
-    ∙ sym (answer c.args.n c.args.block.now _ _ _ (sym c.grant_form-form.ensures ∙ c.if-not-form.false)
-    (sym c.read_at-p.ensures ∙ c.in-Accepted.is) (sym c.read_at-q.ensures ∙ c.in-Accepted-q.is) (sym c.read_at-label.ensures ∙ c.in-Accepted-label.is))
+    grant_days _ _ (sym c.grant_form.ensures ∙ c.if-not-grant_form.false) _ _ _ _ c.in_ok-read_at.ensures c.in_ok-read_at-2.ensures c.in_ok-read_at-3.ensures c.read_days.ensures

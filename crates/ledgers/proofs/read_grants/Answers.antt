@@ -1,38 +1,24 @@
-use Prim.Native.Nat.{ℕ, ◌+◌, ◌*◌, ◌-◌}
 use native.Mathlib.Omega.{arith}
-use mathlib.Core.Path.{◌≡◌, sym, ap, ◌∙◌}
-use mathlib.Core.List.{List}
-use lib.ListN.{take, drop}
-use Rattle.model.specs.Bytes.{field}
-use Rattle.model.specs.Ledgers.{read_grant}
-use Rattle.ledgers.specs.Readings.{grant_reading}
-use Rattle.ledgers.specs.declared.GrantReading.{GrantReading}
-use Rattle.fields.proofs.Parts.{slice_field}
-use Rattle.ledgers.proofs.Readers.{grants_start, grants_more, grants_end}
+use mathlib.Core.Path.{sym, ◌∙◌}
+use Rattle.std.proofs.Common.{◌*◌}
+use Rattle.std.proofs.lemmas.Result.{err_from_is_err_and}
+use Rattle.model.proofs.Blocks.{length-field}
+use Rattle.ledgers.proofs.Readers.{grants_start, grants_stop, grants_more, grants_end}
 use Rattle.ledgers.proofs.read_grants.Goals as goal
 
--- what reading the bytes lent says of block k
-grant_is : (n : ℕ) (bytes : List ℕ) (k : ℕ) (here result : GrantReading)
-    → result ≡ grant_reading (read_grant n (take (512 * k + 512 - 512 * k) (drop (512 * k) bytes))) → result ≡ here → here ≡ grant_reading (read_grant n (field (512 * k) 512 bytes))
-grant_is n bytes k here result e is = sym is ∙ e ∙ ap (λ (b : List ℕ). grant_reading (read_grant n b)) (slice_field (512 * k) 512 bytes)
-
 pub loop-k-init : goal.loop-k-init
-loop-k-init c = (omega arith, grants_start c.args.n c.args.ledger.now)
+loop-k-init c = grants_start c.args.n c.args.ledger.now
 
-pub returns-in_default : goal.returns-in_default
-returns-in_default c =
-    let l = c.loop-k in
-    let a = c.args in
-    c.in_default.is
-    ∙ grants_more a.n a.ledger.now l.k _ _ l.invariant.0 c.loop-k-test.true (grant_is a.n a.ledger.now l.k _ _ c.read_grant-grant.ensures c.in_default.is) l.invariant.1
+pub read_grant-requires : goal.read_grant-requires
+read_grant-requires c = rw c.piece.ensures (omega (arith, length-field (512 * c.loop-k.k) 512 c.args.ledger.now (omega arith)))
+
+pub returns-in_err-read_grant : goal.returns-in_err-read_grant
+returns-in_err-read_grant c =
+    let p = err_from_is_err_and c.from_residual.result c.from_residual.ensures.1 in
+    rw (p.1, p.2) (grants_stop _ c.args.ledger.now c.loop-k.k _ _ (omega arith) (omega arith) c.piece.ensures c.loop-k.invariant _ c.in_err-read_grant.ensures)
 
 pub loop-k-preserved : goal.loop-k-preserved
-loop-k-preserved c =
-    let l = c.loop-k in
-    let a = c.args in
-    (omega arith, grants_more a.n a.ledger.now l.k _ _ l.invariant.0 c.loop-k-test.true (grant_is a.n a.ledger.now l.k _ _ c.read_grant-grant.ensures c.in-Accepted.is) l.invariant.1)
+loop-k-preserved c = grants_more _ c.args.ledger.now c.loop-k.k _ _ (omega arith) (omega arith) c.piece.ensures c.loop-k.invariant _ c.in_ok-read_grant.ensures
 
 pub returns : goal.returns
-returns c =
-    let l = c.loop-k in
-    sym (grants_end c.args.n c.args.ledger.now l.k c.loop-k-test.false) ∙ l.invariant.1
+returns c = sym (grants_end c.args.n c.args.ledger.now c.loop-k.k (omega arith)) ∙ c.loop-k.invariant

@@ -1,4 +1,6 @@
-use Rattle.std.proofs.Common.{rules, ◌≡◌, ◌+◌, ◌≤◌, ◌<◌, ℕ, true, List, eqb, ltb, length, get_or, arith, sym, ◌∙◌, subst}
+use Rattle.std.proofs.Common.{◌≡◌, ◌+◌, ◌-◌, ◌≤◌, ◌<◌, ℕ, true, List, eqb, ltb, length, get_or, arith, sym, ap, ◌∙◌, subst}
+use native.Mathlib.Nat.{sub-zero}
+use Rattle.words.specs.FourWords.{both_sides}
 use Rattle.model.specs.Terms.{quorate}
 use Rattle.model.proofs.Truth.{and_right}
 use Rattle.model.proofs.Reading.{quorate_true}
@@ -14,8 +16,8 @@ use Rattle.words.proofs.+hold_hold_quorum.Goals.{hold-Joined-is_name, hold-Joine
 abbrev There : List ℕ → ℕ → ℕ → Held → Type 0
 There codes at g part = Evaluated codes at g part.rows part.next
 
-pub hold-returns-then-codes-at : goal.hold-returns-then-codes-at
-hold-returns-then-codes-at t c = eval_end _ _ _ _ c.if-codes-at.true c.alike.ensures
+pub hold-returns-in_default : goal.hold-returns-in_default
+hold-returns-in_default t c = eval_end _ _ _ _ c.in_default.ensures.lookup.3 (c.alike.ensures ∙ ap both_sides c.same.ensures)
 
 -- the first part, whether it is a name or not, and the second
 first : (t : ℕ) (c : hold-Joined-is_name t) → There c.args.codes.now (c.args.at + 1) c.args.g c.if-is_name.p
@@ -30,26 +32,34 @@ second t c = elim c.if-is_name-2.branch [
   | hold-else-is_name-2 w ↦ subst (There c.args.codes.now c.if-is_name.p.next c.args.g) (sym w.q-is) w.hold-q.ensures
 ]
 
-pub hold-returns-then-joins : goal.hold-returns-then-joins
-hold-returns-then-joins t c =
-    eval_join _ _ _ (omega arith) _ _ (first t (goal.at.hold-returns-then-joins t c).Joined-is_name) _ _ (second t (goal.at.hold-returns-then-joins t c).Joined-is_name-2) _ (sym c.joins.ensures ∙ c.if-joins.true) c.join.ensures
+pub hold-returns-in-Some-of : goal.hold-returns-in-Some-of
+hold-returns-in-Some-of t c =
+    let p = goal.at.hold-returns-in-Some-of t c in
+    let code = c.in-Some.ensures.lookup.3 in
+    eval_join _ _ _ code.0 _ _ (first t p.Joined-is_name) _ _ (second t p.Joined-is_name-2) _ _ (rw (code.1 0) at (sym c.of.ensures ∙ c.in-Some-of.is)) c.join.ensures
 
-pub hold-hold_quorum-q-requires : goal.hold-hold_quorum-q-requires
-hold-hold_quorum-q-requires t c =
-    let left = left_over_lem _ c.if-code-lt12.false (sym c.joins.ensures ∙ c.if-joins.false) (λ e. omega arith) (λ e. omega arith) (λ e. omega arith) in
-    (omega (arith, behind_left_over c.args.codes.now c.args.at left, c.decreases), tt)
+pub hold-hold_quorum-next-requires : goal.hold-hold_quorum-next-requires
+hold-hold_quorum-next-requires t c =
+    let left = left_over_lem _ c.if-code-lt12.false (sym c.of.ensures ∙ c.in_default-of.is) (λ e. omega arith) (λ e. omega arith) (λ e. omega arith) in
+    (omega (arith, behind_left_over c.args.codes.now c.args.at (rw (c.in-Some.ensures.lookup.3.1 0) at left), c.decreases), tt)
 
 pub hold-returns-in-33 : goal.hold-returns-in-33
-hold-returns-in-33 t c = eval_bottom _ _ _ (omega arith) _ c.alike-in-33.ensures c.in-33.is
+hold-returns-in-33 t c =
+    let code = c.in-Some.ensures.lookup.3 in
+    eval_bottom _ _ _ code.0 _ (c.alike-in-33.ensures ∙ ap both_sides c.same-in-33.ensures) (sym (code.1 0) ∙ c.in-33.is)
 
 pub hold-returns-in-64 : goal.hold-returns-in-64
-hold-returns-in-64 t c = search (rules, eval_confidentiality)
+hold-returns-in-64 t c =
+    let code = c.in-Some.ensures.lookup.3 in
+    eval_confidentiality _ _ _ code.0 _ _ c.hold-p-in-64.ensures _ c.projected.ensures (sym (code.1 0) ∙ c.in-64.is)
 
 pub hold-returns-in-65 : goal.hold-returns-in-65
-hold-returns-in-65 t c = search (rules, eval_integrity)
+hold-returns-in-65 t c =
+    let code = c.in-Some.ensures.lookup.3 in
+    eval_integrity _ _ _ code.0 _ _ c.hold-p-in-65.ensures _ c.projected-in-65.ensures (sym (code.1 0) ∙ c.in-65.is)
 
-pub hold_quorum-hold-p-requires : goal.hold_quorum-hold-p-requires
-hold_quorum-hold-p-requires t c =
+pub hold_quorum-hold-next-requires : goal.hold_quorum-hold-next-requires
+hold_quorum-hold-next-requires t c =
     (omega (arith, behind_other c.args.codes.now c.args.at (sym c.leaves.ensures ∙ c.if-not-leaves.true), c.decreases), tt)
 
 -- a code that is left over is there
@@ -72,22 +82,26 @@ few t c =
 pub hold_quorum-returns-then-not-is_quorum : goal.hold_quorum-returns-then-not-is_quorum
 hold_quorum-returns-then-not-is_quorum t c =
     let q = (goal.at.hold_quorum-returns-then-not-is_quorum t c).Else-not-leaves in
-    eval_left_over _ _ _ (there t q) _ c.alike.ensures (told t q) (sym c.is_quorum.ensures ∙ c.if-not-is_quorum.true)
+    eval_left_over _ _ _ (there t q) _ (c.alike.ensures ∙ ap both_sides c.same.ensures) (told t q) (sym c.is_quorum.ensures ∙ c.if-not-is_quorum.true)
 
-pub hold_quorum-loop-left-init : goal.hold_quorum-loop-left-init
-hold_quorum-loop-left-init t c =
-    (few t (goal.at.hold_quorum-loop-left-init t c).Else-not-is_quorum, weighing_start _ _ _ _ _ _ _ _ _ c.same.ensures c.same-2.ensures c.put_row.ensures c.put_row-2.ensures)
+pub hold_quorum-loop-weighed-init : goal.hold_quorum-loop-weighed-init
+hold_quorum-loop-weighed-init t c =
+    (few t (goal.at.hold_quorum-loop-weighed-init t c).Else-not-is_quorum, rw sub-zero (weighing_start _ _ _ _ _ _ _ _ _ c.same-2.ensures c.same-3.ensures c.put_row.ensures c.put_row-2.ensures))
 
 pub hold_quorum-hold_quorum-p-requires : goal.hold_quorum-hold_quorum-p-requires
 hold_quorum-hold_quorum-p-requires t c =
-    (omega (arith, there t (goal.at.hold_quorum-hold_quorum-p-requires t c).Else-not-leaves, c.loop-left.invariant.1.forward, behind_most c.args.codes.now c.loop-left.next, c.decreases), tt)
+    (omega (arith, there t (goal.at.hold_quorum-hold_quorum-p-requires t c).Else-not-leaves, c.loop-weighed.invariant.1.forward, behind_most c.args.codes.now c.loop-weighed.next, c.decreases), tt)
 
-pub hold_quorum-loop-left-preserved : goal.hold_quorum-loop-left-preserved
-hold_quorum-loop-left-preserved t c =
-    (c.loop-left.invariant.0, weighing_next _ _ _ _ _ _ _ _ c.hold_quorum-p.ensures _ _ _ _ c.loop-left.invariant.0 c.weigh.ensures c.weigh-in-loop-left.ensures c.loop-left.left (omega arith) c.loop-left.invariant.1)
+pub hold_quorum-loop-weighed-preserved : goal.hold_quorum-loop-weighed-preserved
+hold_quorum-loop-weighed-preserved t c =
+    let l = c.loop-weighed in
+    let m = get_or c.args.codes.now (c.args.at + 2) 0 in
+    let fewer : m - (l._weighed + 1) ≡ m - l._weighed - 1 = omega arith in
+    (l.invariant.0, rw fewer (weighing_next _ _ _ _ _ _ _ _ c.hold_quorum-p.ensures _ _ _ _ l.invariant.0 c.weigh.ensures c.weigh-in-loop-weighed.ensures (m - l._weighed) (omega arith) l.invariant.1))
 
 pub hold_quorum-returns : goal.hold_quorum-returns
 hold_quorum-returns t c =
     let p = goal.at.hold_quorum-returns t c in
+    let l = c.loop-weighed in
     rw (c.row_at.ensures, c.row_at-2.ensures)
-    (eval_quorum _ _ _ (there t p.Else-not-leaves) _ _ c.loop-left.left _ (omega arith) (counted t p.Else-not-is_quorum) c.loop-left.invariant.1)
+    (eval_quorum _ _ _ (there t p.Else-not-leaves) _ _ (get_or c.args.codes.now (c.args.at + 2) 0 - l._weighed) _ (omega arith) (counted t p.Else-not-is_quorum) l.invariant.1)

@@ -1,5 +1,5 @@
 -- The measure is the number of codes left, three times, and where these do not fall what tells a code that is left over from the others: it falls at each
--- call. The invariant: the parts from `next` on, as many as `left`, are still to be weighed.
+-- call. The invariant: the parts from `next` on, as many as are left, are still to be weighed.
 use Rattle.std.proofs.Common.{◌+◌, ◌-◌, ◌*◌, ◌≤◌, length, get_or}
 use Rattle.words.proofs.Behind.{behind}
 use Rattle.words.proofs.Tallies.{Weighing}
@@ -11,8 +11,6 @@ decreases-hold l = 3 * (length l.codes.now - l.at) + 1
 abbrev pub decreases-hold_quorum : goal.decreases-hold_quorum
 decreases-hold_quorum l = 3 * (length l.codes.now - l.at) + behind l.codes.now l.at
 
-abbrev pub invariant-hold_quorum-loop-left : goal.invariant-hold_quorum-loop-left
-invariant-hold_quorum-loop-left l = (l.k ≤ 12) × Weighing l.codes (l.at + 3) (get_or l.codes (l.at + 2) 0) l.g l.k l.left l.next l.see l.change
-
-abbrev pub decreases-hold_quorum-loop-left : goal.decreases-hold_quorum-loop-left
-decreases-hold_quorum-loop-left l = l.left
+abbrev pub invariant-hold_quorum-loop-weighed : goal.invariant-hold_quorum-loop-weighed
+invariant-hold_quorum-loop-weighed l =
+    (l.k ≤ 12) × Weighing l.codes (l.at + 3) (get_or l.codes (l.at + 2) 0) l.g l.k (get_or l.codes (l.at + 2) 0 - l._weighed) l.next l.see l.change

@@ -4,4 +4,4 @@ use Rattle.words.proofs.hold_name.Goals as goal
 pub returns : goal.returns
 returns c =
     let pre = c.requires in
-    eval_name _ _ _ pre.0 _ pre.1 c.name_row-x.ensures
+    rw c.alike.ensures (eval_name _ _ _ pre.0 _ pre.1 c.name_row.ensures)

@@ -8,8 +8,8 @@ returns-in-6 c = name_six _ _ c.in-6.is
 pub returns-in-7 : goal.returns-in-7
 returns-in-7 c = name_seven _ _ c.in-7.is
 
-pub returns-then-i-lt6 : goal.returns-then-i-lt6
-returns-then-i-lt6 c = name_row_low _ _ _ _ c.if-i-lt6.true c.name_word.ensures c.same.ensures
+pub returns-in-0-to-5 : goal.returns-in-0-to-5
+returns-in-0-to-5 c = name_row_low _ _ _ _ (omega arith) c.name_word.ensures c.same.ensures
 
-pub returns-else-i-lt6 : goal.returns-else-i-lt6
-returns-else-i-lt6 c = name_row_high _ _ _ _ (omega arith) c.name_word-else-i-lt6.ensures c.same-else-i-lt6.ensures
+pub returns-in_default : goal.returns-in_default
+returns-in_default c = name_row_high _ _ _ _ (omega arith) c.name_word-in_default.ensures c.same-in_default.ensures

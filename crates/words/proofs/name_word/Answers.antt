@@ -5,8 +5,8 @@ use Rattle.model.specs.Coalitions.{member, packed}
 use Rattle.words.proofs.Names.{name_far, name_low, name_on, name_off}
 use Rattle.words.proofs.name_word.Goals as goal
 
-pub returns-then-i-ge70 : goal.returns-then-i-ge70
-returns-then-i-ge70 c = name_far _ _ c.if-i-ge70.true (omega arith)
+pub returns-in_default : goal.returns-in_default
+returns-in_default c = name_far _ _ (omega arith) (omega arith)
 
 pub returns-in-0 : goal.returns-in-0
 unfolding packed member

@@ -1,4 +1,5 @@
-use mathlib.Core.Path.{ap, ap₂, ◌∙◌}
+use Prim.Native.Nat.{◌+◌, ◌-◌}
+use mathlib.Core.Path.{◌≡◌, ap, ap₂, ◌∙◌}
 use native.Mathlib.Omega.{arith}
 use lib.Bits.{bit_and, bit_or}
 use Rattle.words.specs.declared.Row.{Row}
@@ -9,10 +10,8 @@ use Rattle.words.proofs.weigh.Goals as goal
 pub loop-j-preserved : goal.loop-j-preserved
 loop-j-preserved c =
     let l = c.loop-j in
-    let a = c.args in (
-      omega (arith, l.invariant.0),
-      l.invariant.1,
-      rw c.put_row.ensures (weighed_next l.j a.k a.x _ _ l.table (omega arith) l.invariant.0 l.invariant.2
-          (c.either.ensures ∙ ap₂ (each_word bit_or) c.row_at-enough.ensures
-          (c.both.ensures ∙ ap (λ (y : Row). each_word bit_and y a.x) c.row_at-fewer.ensures))),
-    )
+    let a = c.args in
+    let place : l.j - 1 + 1 ≡ l.j = omega arith in
+    rw (c.put_row.ensures, place) (weighed_next l.j a.k a.x _ _ l.table (omega arith) (omega arith) l.invariant
+    (c.either.ensures ∙ ap₂ (each_word bit_or) (rw place at c.row_at-enough.ensures)
+    (c.both.ensures ∙ ap (λ (y : Row). each_word bit_and y a.x) c.row_at-fewer.ensures)))

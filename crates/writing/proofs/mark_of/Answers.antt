@@ -1,41 +1,40 @@
 -- In each arm the code is a number, at which `mark_of` computes.
-use Rattle.std.proofs.lemmas.Bool.{lt-ltb}
 use Rattle.std.proofs.Common.{arith}
 use Rattle.std.proofs.lemmas.Grind.{common_steps}
 use Rattle.writing.specs.Writing.{mark_of}
 use Rattle.writing.proofs.mark_of.Goals as goal
 
-pub returns-then-code-lt12 : goal.returns-then-code-lt12
+pub returns-in-0-to-11 : goal.returns-in-0-to-11
 unfolding mark_of
-returns-then-code-lt12 c = rw (lt-ltb _ _ c.if-code-lt12.true)
+returns-in-0-to-11 c = grind (arith, common_steps)
 
 pub returns-in-32 : goal.returns-in-32
 unfolding mark_of
-returns-in-32 c = rw c.in-32.is
+returns-in-32 c = grind (arith, common_steps)
 
 pub returns-in-33 : goal.returns-in-33
 unfolding mark_of
-returns-in-33 c = rw c.in-33.is
+returns-in-33 c = grind (arith, common_steps)
 
 pub returns-in-48 : goal.returns-in-48
 unfolding mark_of
-returns-in-48 c = rw c.in-48.is
+returns-in-48 c = grind (arith, common_steps)
 
 pub returns-in-49 : goal.returns-in-49
 unfolding mark_of
-returns-in-49 c = rw c.in-49.is
+returns-in-49 c = grind (arith, common_steps)
 
 pub returns-in-50 : goal.returns-in-50
 unfolding mark_of
-returns-in-50 c = rw c.in-50.is
+returns-in-50 c = grind (arith, common_steps)
 
 pub returns-in-64 : goal.returns-in-64
 unfolding mark_of
-returns-in-64 c = rw c.in-64.is
+returns-in-64 c = grind (arith, common_steps)
 
 pub returns-in-65 : goal.returns-in-65
 unfolding mark_of
-returns-in-65 c = rw c.in-65.is
+returns-in-65 c = grind (arith, common_steps)
 
 pub returns-in_default : goal.returns-in_default
 unfolding mark_of

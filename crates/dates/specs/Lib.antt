@@ -1,2 +1,0 @@
--- What the promises of this crate cite.
-pub mod Sums

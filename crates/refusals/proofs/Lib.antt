@@ -1,0 +1,2 @@
+-- What other crates may cite.
+pub mod Results

@@ -1,0 +1,3 @@
+-- What the promises of calls that can be refused cite.
+pub mod Numbers
+pub mod Results

@@ -6,19 +6,12 @@ ghost use Rattle.model.specs.Bytes.{big_endian};
 ghost use Rattle.model.specs.Coalitions.{packed};
 ghost use Rattle.model.specs.Terms.{held};
 ghost use Rattle.model.specs.ShortForms.{pairs, short_form, shorten};
+ghost use Rattle.refusals.specs.Results.{outcome_of};
 ghost use Rattle.words.specs.AnyBytes.{term_in};
 ghost use Rattle.words.specs.Evaluation.{word_count};
-ghost use Rattle.short_forms.specs.Listings.{outcome_of, marked, marked_without, irredundant, bits_of, listing, FrontWritten};
+ghost use Rattle.short_forms.specs.Listings.{marked, marked_without, irredundant, bits_of, listing, FrontWritten};
 
-use terms::TermReading;
-
-#[derive(Clone, Copy)]
-pub enum ShortForm {
-    // The number of bytes.
-    Written(usize),
-    // The number of the refusal: 7, 8, or the term's, 1 to 4.
-    Refused(u8),
-}
+use refusals::Refusal;
 
 // The coalitions of word w that have name i as a member and are marked without it. Without a name below 6 a coalition stands 2^i
 // bits down in its word, without another 2^(i - 6) words down.
@@ -113,19 +106,16 @@ fn write(n: u64, term: &[u8], buffer: &mut [u8]) -> usize
     first + second
 }
 
-// Takes n, a term and a buffer of at least 3,700 bytes. Later bytes keep their content, and a refused call leaves all.
-pub fn short_form(n: u64, term: &[u8], buffer: &mut [u8]) -> ShortForm
+// Takes n, a term and a buffer of at least 3,700 bytes, and gives the length. Later bytes keep their content, and a refused call leaves all.
+pub fn short_form(n: u64, term: &[u8], buffer: &mut [u8]) -> Result<usize, Refusal>
     ensures { outcome_of result buffer.new ≡ shorten n term.now buffer.old }
 {
-    if n < 1 || 12 < n {
-        return ShortForm::Refused(7);
+    if !(1..=12).contains(&n) {
+        return Err(Refusal::Names);
     }
     if buffer.len() < 3700 {
-        return ShortForm::Refused(8);
+        return Err(Refusal::Room);
     }
-    let reading = terms::read_term(term, n);
-    let TermReading::Accepted = reading else {
-        return ShortForm::Refused(terms::term_refusal(reading));
-    };
-    ShortForm::Written(write(n, term, buffer))
+    terms::read_term(term, n).map_err(Refusal::Term)?;
+    Ok(write(n, term, buffer))
 }

@@ -7,7 +7,7 @@ ghost use Rattle.soundness.specs.Keeping.{sound_in};
 ghost use Rattle.extracts.specs.Halves.{paste_word, paste_row, blank, Halves};
 ghost use Rattle.extracts.specs.Results.{outcome_of};
 
-use ledgers::LedgerReading;
+use refusals::Refusal;
 use words::Row;
 
 // Bytes 8 × w to 8 × w + 7 of a half become those of a word of marks, lowest first: coalition c is bit c mod 8 of byte c div 8.
@@ -42,32 +42,20 @@ fn mark_sound(ledger: &[u8], n: u64, grants: usize, chosen: u64, see: &mut [u8],
     }
 }
 
-// What an extract call gives.
-#[derive(Clone, Copy)]
-pub enum Extracted {
-    Written,
-    // The number of the refusal: 86, 51, the ledger's 10 to 14, 84 and 85, the label's 41 to 44.
-    Refused(u8),
-}
-
 // Writes the extract of a ledger under a label on a day. The buffer is written once nothing can be refused any more.
-pub fn extract(ledger: &[u8], label: &[u8], day: u32, buffer: &mut [u8]) -> Extracted
+pub fn extract(ledger: &[u8], label: &[u8], day: u32, buffer: &mut [u8]) -> Result<(), Refusal>
     ensures { outcome_of result buffer.new ≡ extract ledger.now label.now day buffer.old }
 {
-    let real = dates::real_date(day);
-    if !real {
-        return Extracted::Refused(86);
+    if !dates::real_date(day) {
+        return Err(Refusal::NotReal);
     }
     if buffer.len() != 1024 {
-        return Extracted::Refused(51);
+        return Err(Refusal::ExtractLength);
     }
-    let book = ledgers::read_book(ledger, label);
-    let LedgerReading::Accepted { names, grants } = book else {
-        return Extracted::Refused(ledgers::ledger_refusal(book));
-    };
-    let counted = counting::counted(ledger, names, grants, label, day);
+    let book = ledgers::read_book(ledger, label)?;
+    let counted = counting::counted(ledger, book.names, book.grants, label, day);
     buffer.fill(0);
     let (see, change) = buffer.split_at_mut(512);
-    mark_sound(ledger, names, grants, counted, see, change);
-    Extracted::Written
+    mark_sound(ledger, book.names, book.grants, counted, see, change);
+    Ok(())
 }

@@ -17,15 +17,15 @@ const NONE: u64 = 0;
 
 const ALL: u64 = 0xFFFF_FFFF_FFFF_FFFF;
 
-#[derive(Clone, Copy)]
+#[derive(Clone, Copy, Debug, PartialEq, Eq)]
 pub enum Side {
     See,
     Change,
 }
 
 // A row of a set of coalitions: its four words, lowest first.
-// Kept: an array of four words passes through memory at each call, where four words stay in registers.
-#[derive(Clone, Copy)]
+// Kept: four fields stay in registers, where an array of four words goes through memory at each call.
+#[derive(Clone, Copy, Debug, PartialEq, Eq)]
 pub struct Row {
     pub a: u64,
     pub b: u64,
@@ -34,7 +34,7 @@ pub struct Row {
 }
 
 // A row on each side.
-#[derive(Clone, Copy)]
+#[derive(Clone, Copy, Debug, PartialEq, Eq)]
 pub struct Rows {
     pub see: Row,
     pub change: Row,
@@ -166,7 +166,7 @@ fn name_row(i: u8, g: u64) -> Row
 
 // A row of a term on both sides, and the place after the term's codes. The place stands first: with it last the compiler pairs the words off by one, and
 // each pair is read back slowly.
-#[derive(Clone, Copy)]
+#[derive(Clone, Copy, Debug, PartialEq, Eq)]
 pub struct Held {
     pub next: usize,
     pub rows: Rows,

@@ -1,10 +1,9 @@
 -- The outcome of an extract call, as its refusals are met in their order: 86, 51, the ledger's, the label's. Assumes nothing.
-use mathlib.Core.Path.{◌≡◌, ap, ap₂, ◌∙◌}
+use mathlib.Core.Path.{◌≡◌, ap₂}
 use mathlib.Core.Bool.{true, false}
 use mathlib.Core.List.{List, ◌++◌}
 use Prim.Native.Nat.{ℕ}
 use lib.ListN.{length}
-use lib.Seq.{paste}
 use borrow.Author.Tests.{eq-eqb, ne_eqb}
 use Rattle.model.specs.Readings.{accepted, refused}
 use Rattle.model.specs.Coalitions.{Marks}
@@ -14,15 +13,7 @@ use Rattle.model.specs.Ledgers.{Ledger, read_book}
 use Rattle.model.specs.Answers.{Yes, Refused, Outcome}
 use Rattle.model.specs.Questions.{sound_under}
 use Rattle.model.specs.Extracts.{table, extract_of, extract}
-use Rattle.model.proofs.Table.{length-packed}
 use Rattle.extracts.specs.Halves.{Halves}
-use Rattle.extracts.proofs.Pasting.{paste_both}
-
-pub see_length : {n : ℕ} {S : Marks} {see change : List ℕ} → Halves n S see change → length see ≡ 512
-see_length h = ap length h.see_half ∙ length-packed _ 0 512
-
-pub change_length : {n : ℕ} {S : Marks} {see change : List ℕ} → Halves n S see change → length change ≡ 512
-change_length h = ap length h.change_half ∙ length-packed _ 0 512
 
 module _ (ledger label : List ℕ) (day : ℕ) (buffer : List ℕ) where
   -- a refused call leaves the buffer as it was
@@ -47,8 +38,7 @@ module _ (ledger label : List ℕ) (day : ℕ) (buffer : List ℕ) where
     unfolding extract extract_of
     table-written l u bytes e t = rw (real, eq-eqb (length buffer) 1024 fits, e, t)
 
--- both halves, copied into the buffer one after the other, are the table
-pub halves_table : (n : ℕ) (S : Marks) (see change buffer : List ℕ) → length buffer ≡ 1024 → Halves n S see change → paste (paste buffer 0 see 512) 512 change 512 ≡ table n S
+-- the two halves are the table
+pub halves_table : {n : ℕ} {S : Marks} {see change : List ℕ} → Halves n S see change → see ++ change ≡ table n S
 unfolding table
-halves_table n S see change buffer fits h =
-    paste_both buffer see change fits (see_length h) (change_length h) ∙ ap₂ (λ (l m : List ℕ). l ++ m) h.see_half h.change_half
+halves_table h = ap₂ (λ (l m : List ℕ). l ++ m) h.see_half h.change_half

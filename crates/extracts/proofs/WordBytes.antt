@@ -2,11 +2,12 @@
 use mathlib.Core.Path.{◌≡◌, refl, sym, ap, ap₂, ◌∙◌}
 use mathlib.Core.Bool.{Bool}
 use mathlib.Core.List.{List, ◌∷◌}
-use Prim.Native.Nat.{ℕ, zero, suc, ◌+◌, ◌*◌, ◌/◌, ◌%◌, ◌^◌, ◌<◌}
-use native.Mathlib.Nat.{not-suc-le-zero, le_of_suc-le-suc, div-one}
+use Prim.Native.Nat.{ℕ, zero, suc, ◌+◌, ◌*◌, ◌/◌, ◌%◌, ◌^◌}
+use native.Mathlib.Nat.{pow-suc, div-div-eq-div-mul}
+use Rattle.std.specs.Int.{bytes_low_first, to_le_bytes}
+use Rattle.std.proofs.Common.{w64}
 use native.Mathlib.Omega.{arith}
-use lib.ListN.{length, get_or}
-use lib.Pow.{shr-shr}
+use lib.ListN.{length}
 use Rattle.model.specs.Coalitions.{packed}
 use Rattle.model.specs.Extracts.{packed_bytes}
 use Rattle.model.proofs.Packed.{packed_lt}
@@ -18,14 +19,17 @@ unfolding little_endian
 length_bytes zero x = refl
 length_bytes (suc k) x = ap suc (length_bytes k (x / 256))
 
--- byte k, as the code shifts it down
-pub byte_at : (m x k : ℕ) → k < m → get_or (little_endian m x) k 0 ≡ x / 2 ^ (8 * k) % 256
+-- they are what the library's method gives
+bytes_from : (i k x : ℕ) → bytes_low_first (suc i) k x ≡ little_endian k (x / 256 ^ suc i)
 unfolding little_endian
-byte_at zero x k h = absurd (not-suc-le-zero h)
-byte_at (suc m) x zero h = ap (λ (y : ℕ). y % 256) (sym (div-one x))
-byte_at (suc m) x (suc k) h =
-    let e : 8 + 8 * k ≡ 8 * suc k = omega arith in
-    byte_at m (x / 256) k (le_of_suc-le-suc h) ∙ ap (λ (y : ℕ). y % 256) (shr-shr x 8 (8 * k) ∙ ap (λ (y : ℕ). x / 2 ^ y) e)
+bytes_from i zero x = refl
+bytes_from i (suc k) x =
+    ap (λ (l : List ℕ). x / 256 ^ suc i % 256 ∷ l)
+    (bytes_from (suc i) k x ∙ ap (little_endian k) (ap (λ (m : ℕ). x / m) (pow-suc 256 (suc i)) ∙ sym (div-div-eq-div-mul x (256 ^ suc i) 256)))
+
+pub bytes_are : (x : ℕ) → to_le_bytes w64 x ≡ little_endian 8 x
+unfolding little_endian
+bytes_are x = ap (λ (l : List ℕ). x % 256 ∷ l) (bytes_from 0 7 x)
 
 -- the k bytes of 8 × k marks
 pub marks_bytes : (f : ℕ → Bool) (j k : ℕ) → little_endian k (packed f (8 * j) (8 * k)) ≡ packed_bytes f j k

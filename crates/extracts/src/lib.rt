@@ -2,29 +2,24 @@
 #![tactic(auto)]
 
 ghost use Rattle.std.specs.Prelude.{◌≡◌, ◌+◌, ◌≤◌, ◌<◌, length};
-ghost use Rattle.std.proofs.Math.Seq.{paste};
 ghost use Rattle.model.specs.Extracts.{extract};
 ghost use Rattle.soundness.specs.Keeping.{sound_in};
 ghost use Rattle.extracts.specs.Halves.{paste_word, paste_row, blank, Halves};
 ghost use Rattle.extracts.specs.Results.{outcome_of};
 
-use ledgers::LedgerReading;
+use refusals::Refusal;
 use words::Row;
 
 // Bytes 8 × w to 8 × w + 7 of a half become those of a word of marks, lowest first: coalition c is bit c mod 8 of byte c div 8.
-fn put_word(half: &mut [u8; 512], w: usize, word: u64)
+fn put_word(half: &mut [u8], w: usize, word: u64)
     requires { (w < 64) × (length half.old ≡ 512) }
     ensures { half.new ≡ paste_word half.old w word }
 {
-    let mut k: usize = 0;
-    while k < 8 {
-        half[8 * w + k] = ((word >> (8 * k)) % 256) as u8;
-        k += 1;
-    }
+    half[8 * w..8 * w + 8].copy_from_slice(&word.to_le_bytes());
 }
 
 // Bytes 32 × g to 32 × g + 31 of a half become those of a row.
-fn put_row(half: &mut [u8; 512], g: u64, row: Row)
+fn put_row(half: &mut [u8], g: u64, row: Row)
     requires { (g < 16) × (length half.old ≡ 512) }
     ensures { half.new ≡ paste_row half.old g row }
 {
@@ -36,67 +31,31 @@ fn put_row(half: &mut [u8; 512], g: u64, row: Row)
 }
 
 // Marks in both halves, which are all 00 before, the coalitions that keep each grant whose bit is set.
-fn mark_sound(
-    ledger: &[u8],
-    n: u64,
-    grants: usize,
-    chosen: u64,
-    see: &mut [u8; 512],
-    change: &mut [u8; 512],
-)
+fn mark_sound(ledger: &[u8], n: u64, grants: usize, chosen: u64, see: &mut [u8], change: &mut [u8])
     requires { (see.old ≡ blank 512) × (change.old ≡ blank 512) }
     ensures { Halves n (sound_in ledger.now grants chosen) see.new change.new }
 {
-    let rows = words::row_count(n);
-    let mut g: u64 = 0;
-    while g < rows {
+    for g in 0..words::row_count(n) {
         let sound = soundness::sound_row(ledger, n, grants, chosen, g);
         put_row(see, g, sound.see);
         put_row(change, g, sound.change);
-        g += 1;
     }
-}
-
-// The buffer's 512 bytes from `at` on become those of a half.
-fn copy_half(half: &[u8; 512], buffer: &mut [u8], at: usize)
-    requires { (length half.now ≡ 512) × (at + 512 ≤ length buffer.old) }
-    ensures { buffer.new ≡ paste buffer.old at half.now 512 }
-{
-    let mut k: usize = 0;
-    while k < 512 {
-        buffer[at + k] = half[k];
-        k += 1;
-    }
-}
-
-// What an extract call gives.
-#[derive(Clone, Copy)]
-pub enum Extracted {
-    Written,
-    // The number of the refusal: 86, 51, the ledger's 10 to 14, 84 and 85, the label's 41 to 44.
-    Refused(u8),
 }
 
 // Writes the extract of a ledger under a label on a day. The buffer is written once nothing can be refused any more.
-pub fn extract(ledger: &[u8], label: &[u8], day: u32, buffer: &mut [u8]) -> Extracted
+pub fn extract(ledger: &[u8], label: &[u8], day: u32, buffer: &mut [u8]) -> Result<(), Refusal>
     ensures { outcome_of result buffer.new ≡ extract ledger.now label.now day buffer.old }
 {
-    let real = dates::real_date(day);
-    if !real {
-        return Extracted::Refused(86);
+    if !dates::real_date(day) {
+        return Err(Refusal::NotReal);
     }
     if buffer.len() != 1024 {
-        return Extracted::Refused(51);
+        return Err(Refusal::ExtractLength);
     }
-    let book = ledgers::read_book(ledger, label);
-    let LedgerReading::Accepted { names, grants } = book else {
-        return Extracted::Refused(ledgers::ledger_refusal(book));
-    };
-    let counted = counting::counted(ledger, names, grants, label, day);
-    let mut see = [0u8; 512];
-    let mut change = [0u8; 512];
-    mark_sound(ledger, names, grants, counted, &mut see, &mut change);
-    copy_half(&see, buffer, 0);
-    copy_half(&change, buffer, 512);
-    Extracted::Written
+    let book = ledgers::read_book(ledger, label)?;
+    let counted = counting::counted(ledger, book.names, book.grants, label, day);
+    buffer.fill(0);
+    let (see, change) = buffer.split_at_mut(512);
+    mark_sound(ledger, book.names, book.grants, counted, see, change);
+    Ok(())
 }

@@ -1,17 +1,11 @@
 -- Bytes written to the front of a buffer, and then to the front of the part behind them. Assumes nothing.
-use mathlib.Core.Path.{◌≡◌, refl, sym, ap, ◌∙◌}
-use mathlib.Core.List.{List, [], ◌∷◌, ◌++◌, append_assoc, append-nil}
+use mathlib.Core.Path.{◌≡◌, sym, ap, ◌∙◌}
+use mathlib.Core.List.{List, [], ◌++◌, append_assoc, append-nil}
 use Prim.Native.Nat.{ℕ, ◌+◌, ◌-◌, ◌≤◌}
 use native.Mathlib.Omega.{arith}
-use lib.ListN.{length, take, drop, set, length-append, length-take, length-drop, drop_of_length-le}
+use lib.ListN.{length, take, drop, length-append, length-take, length-drop, drop_of_length-le}
 use lib.Seq.{take_all, take_at, drop_at, drop-drop}
 use Rattle.short_forms.specs.Listings.{FrontWritten}
-
--- a list after two stores at its front
-pub two_stored : (l : List ℕ) (a b : ℕ) → 2 ≤ length l → set (set l 0 a) 1 b ≡ a ∷ b ∷ drop 2 l
-two_stored [] a b h = absurd (omega arith)
-two_stored (x ∷ []) a b h = absurd (omega arith)
-two_stored (x ∷ y ∷ l) a b h = refl
 
 -- a buffer is as long as it was when the part from place i on is put back, as long as that was
 pub part_long : (now part : List ℕ) (i : ℕ) → length part ≡ length (take (length now - i) (drop i now))

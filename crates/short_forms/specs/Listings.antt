@@ -3,20 +3,7 @@
 use Rattle.std.specs.Prelude.{◌≡◌, Bool, not, ◌&&◌, List, ◌++◌, ℕ, ◌-◌, ◌/◌, ◌%◌, ◌^◌, length, get_or, drop}
 use Rattle.model.specs.Bytes.{big_endian}
 use Rattle.model.specs.Coalitions.{member, implies, every, those}
-use Rattle.model.specs.Answers.{Answer, Outcome}
 use Rattle.model.specs.ShortForms.{pairs}
-use Rattle.model.specs.Answers as answers
-use Rattle.short_forms.specs.declared.ShortForm.{ShortForm}
-use Rattle.short_forms.specs.declared.ShortForm.TheVariants.{Written, Refused}
-
--- what each case of the answer is in document 01
-abbrev pub form_of : ShortForm → Answer
-form_of (Written k) = answers.Written k
-form_of (Refused r) = answers.Refused r
-
--- the answer, and the lent buffer afterwards
-abbrev pub outcome_of : ShortForm → List ℕ → Outcome
-outcome_of r after = record { answer = form_of r; buffer = after }
 
 -- the mark of coalition c in a table of words: bit c mod 64 of word c div 64
 unfoldable pub marked : List ℕ → ℕ → Bool

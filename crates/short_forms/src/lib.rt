@@ -6,19 +6,12 @@ ghost use Rattle.model.specs.Bytes.{big_endian};
 ghost use Rattle.model.specs.Coalitions.{packed};
 ghost use Rattle.model.specs.Terms.{held};
 ghost use Rattle.model.specs.ShortForms.{pairs, short_form, shorten};
+ghost use Rattle.refusals.specs.Results.{outcome_of};
 ghost use Rattle.words.specs.AnyBytes.{term_in};
 ghost use Rattle.words.specs.Evaluation.{word_count};
-ghost use Rattle.short_forms.specs.Listings.{outcome_of, marked, marked_without, irredundant, bits_of, listing, FrontWritten};
+ghost use Rattle.short_forms.specs.Listings.{marked, marked_without, irredundant, bits_of, listing, FrontWritten};
 
-use terms::TermReading;
-
-#[derive(Clone, Copy)]
-pub enum ShortForm {
-    // The number of bytes.
-    Written(usize),
-    // The number of the refusal: 7, 8, or the term's, 1 to 4.
-    Refused(u8),
-}
+use refusals::Refusal;
 
 // The coalitions of word w that have name i as a member and are marked without it. Without a name below 6 a coalition stands 2^i
 // bits down in its word, without another 2^(i - 6) words down.
@@ -30,13 +23,13 @@ fn less_word(marks: &[u64], i: u64, w: u64) -> u64
     if i < 6 {
         let having = words::name_word(i as u8, w);
         let up: u64 = 1 << i;
-        return (marks[place] << up) & having;
-    }
-    if (w >> (i - 6)) % 2 == 1 {
+        (marks[place] << up) & having
+    } else if (w >> (i - 6)) % 2 == 1 {
         let down: usize = 1 << (i - 6);
-        return marks[place - down];
+        marks[place - down]
+    } else {
+        0
     }
-    0
 }
 
 // The minimal coalitions of word w. A term is monotone in the coalition, so that one member less is all there is to try.
@@ -44,15 +37,12 @@ fn minimal_word(marks: &[u64], n: u64, w: u64) -> u64
     requires { (n ≤ 12) × (w < length marks.now) }
     ensures { result ≡ packed (irredundant n (marked marks.now)) (64 * w) 64 }
 {
-    let place = w as usize;
-    let mut found = marks[place];
-    let mut i: u64 = 0;
-    while i < n {
+    let mut found = marks[w as usize];
+    for i in 0..n {
         if found == 0 {
             return 0;
         }
-        found = found & !less_word(marks, i, w);
-        i += 1;
+        found &= !less_word(marks, i, w);
     }
     found
 }
@@ -62,8 +52,7 @@ fn put(buffer: &mut [u8], x: usize)
     requires { (2 ≤ length buffer.old) × (x < 65536) }
     ensures { FrontWritten (big_endian x) buffer.old buffer.new 2 }
 {
-    buffer[0] = (x / 256) as u8;
-    buffer[1] = (x % 256) as u8;
+    buffer[..2].copy_from_slice(&(x as u16).to_be_bytes());
 }
 
 // Writes coalition first + j for each bit j of the word, ascending. The result is the number of bytes.
@@ -74,6 +63,7 @@ fn list_word(word: u64, first: usize, buffer: &mut [u8]) -> usize
     let mut rest = word;
     let mut c = first;
     let mut at: usize = 0;
+    // Kept: a `for` over the 64 places would step over the clear bits too, and need a test: it is no plainer.
     while rest != 0 {
         let skip = words::lowest(rest);
         rest = rest >> skip >> 1;
@@ -94,11 +84,9 @@ fn list_side(marks: &[u64], n: u64, buffer: &mut [u8]) -> usize
 {
     let count = words::word_count(n);
     let mut at: usize = 2;
-    let mut w: u64 = 0;
-    while w < count {
+    for w in 0..count {
         let word = words::low_mask(n, w) & minimal_word(marks, n, w);
         at += list_word(word, 64 * (w as usize), &mut buffer[at..]);
-        w += 1;
     }
     put(buffer, (at - 2) / 2);
     at
@@ -118,19 +106,16 @@ fn write(n: u64, term: &[u8], buffer: &mut [u8]) -> usize
     first + second
 }
 
-// Takes n, a term and a buffer of at least 3,700 bytes. Later bytes keep their content, and a refused call leaves all.
-pub fn short_form(n: u64, term: &[u8], buffer: &mut [u8]) -> ShortForm
+// Takes n, a term and a buffer of at least 3,700 bytes, and gives the length. Later bytes keep their content, and a refused call leaves all.
+pub fn short_form(n: u64, term: &[u8], buffer: &mut [u8]) -> Result<usize, Refusal>
     ensures { outcome_of result buffer.new ≡ shorten n term.now buffer.old }
 {
-    if n < 1 || 12 < n {
-        return ShortForm::Refused(7);
+    if !(1..=12).contains(&n) {
+        return Err(Refusal::Names);
     }
     if buffer.len() < 3700 {
-        return ShortForm::Refused(8);
+        return Err(Refusal::Room);
     }
-    let reading = terms::read_term(term, n);
-    let TermReading::Accepted = reading else {
-        return ShortForm::Refused(terms::term_refusal(reading));
-    };
-    ShortForm::Written(write(n, term, buffer))
+    terms::read_term(term, n).map_err(Refusal::Term)?;
+    Ok(write(n, term, buffer))
 }

@@ -20,11 +20,13 @@ use Rattle.words.specs.FourWords.{RowAt, RowsAt, empty_rows}
 use Rattle.words.specs.Evaluation.{job_of, row_count}
 use Rattle.words.proofs.Names.{rows_enough, rows_most, rows_few, few_coalitions}
 use Rattle.words.proofs.FourWords.{rows_cong, rows_empty}
-use Rattle.planes.specs.Digits.{Digits, Elsewhere, Raised, Lowered}
+use Rattle.planes.specs.Digits.{Digits, Elsewhere}
 use Rattle.planes.proofs.Planes.{digits_else, digits_cong}
 use Rattle.questions.specs.declared.Relation.{Relation}
 use Rattle.questions.specs.Searching.{from_of, to_of, judge_of}
-use Rattle.stored.specs.Stored.{row_of, of_job, more, Stored, Small}
+use Rattle.stored.specs.declared.Step.{Step}
+use Rattle.stored.specs.declared.Step.TheVariants.{Raise, Lower}
+use Rattle.stored.specs.Stored.{row_of, of_job, more, Stored, Small, RowStepped, before_of, after_of}
 
 -- numbers that agree are stored alike
 pub stored_cong : (n : ℕ) (planes : List ℕ) (f h : Numbers) → ((s : Side) (c : ℕ) → f s c ≡ h s c) → Stored n planes f → Stored n planes h
@@ -89,26 +91,39 @@ marked-bit n f m s c = by (ltb c (2 ^ n))
     by true = refl
     by false = refl
 
-module _ (n : ℕ) (f : Numbers) (m : Marks) (s : Side) (row g : ℕ) (marked : Row) (before after : List ℕ) where
-  -- of a row of numbers whose marked ones are raised
-  pub raised_row : Raised before row marked after → RowAt (mark n (m s)) g marked → Digits before row g (of_job n f s) → Digits after row g (of_job n (more f m) s)
-  raised_row h r d = digits_cong after row g _ (of_job n (more f m) s) (λ c _ _. marked-bit n f m s c) (h.number g (of_job n f s) (mark n (m s)) d r)
+-- a row of numbers whose marked ones are raised, or lowered
+pub stepped_row : (n : ℕ) (f : Numbers) (m : Marks) (s : Side) (row g : ℕ) (marked : Row) (before after : List ℕ) (step : Step) → RowStepped step before row marked after → RowAt (mark n (m s)) g marked
+    → Digits before row g (of_job n (before_of step f m) s) → Digits after row g (of_job n (after_of step f m) s)
+stepped_row n f m s row g marked before after Raise h r d = digits_cong after row g _ (of_job n (more f m) s) (λ c _ _. marked-bit n f m s c) (h.number g (of_job n f s) (mark n (m s)) d r)
+stepped_row n f m s row g marked before after Lower h r d = h.number g (of_job n f s) (mark n (m s)) (digits_cong before row g (of_job n (more f m) s) _ (λ c _ _. sym (marked-bit n f m s c)) d) r
 
-  -- and lowered
-  pub lowered_row : Lowered before row marked after → RowAt (mark n (m s)) g marked → Digits before row g (of_job n (more f m) s) → Digits after row g (of_job n f s)
-  lowered_row h r d = h.number g (of_job n f s) (mark n (m s)) (digits_cong before row g (of_job n (more f m) s) _ (λ c _ _. sym (marked-bit n f m s c)) d) r
+pub stepped_others : (row : ℕ) (marked : Row) (before after : List ℕ) (step : Step) → RowStepped step before row marked after → Elsewhere before row after
+stepped_others row marked before after Raise h = h.others
+stepped_others row marked before after Lower h = h.others
 
 -- ---- a grant's part
 
 -- what a grant that counts breaks, and one that doesn't
 module _ (u : Under) (g : Grant) (f : Numbers) (s : Side) (c : ℕ) where
-  pub counting_part : counts_under u g ≡ true → more f (breaks (marks_of g)) s c ≡ more f (breaks_counting u g) s c
+  part : counts_under u g ≡ true → more f (breaks (marks_of g)) s c ≡ more f (breaks_counting u g) s c
   unfolding breaks_counting
-  counting_part e = rw e
+  part e = rw e
 
-  pub no_part : counts_under u g ≡ false → f s c ≡ more f (breaks_counting u g) s c
+  no_part : counts_under u g ≡ false → f s c ≡ more f (breaks_counting u g) s c
   unfolding breaks_counting
   no_part e = rw e (sym (add-zero (f s c)))
+
+  pub part_before : (step : Step) → counts_under u g ≡ true → before_of step f (breaks_counting u g) s c ≡ before_of step f (breaks (marks_of g)) s c
+  part_before Raise e = refl
+  part_before Lower e = sym (part e)
+
+  pub part_after : (step : Step) → counts_under u g ≡ true → after_of step f (breaks (marks_of g)) s c ≡ after_of step f (breaks_counting u g) s c
+  part_after Raise e = part e
+  part_after Lower e = refl
+
+  pub no_step : (step : Step) → counts_under u g ≡ false → before_of step f (breaks_counting u g) s c ≡ after_of step f (breaks_counting u g) s c
+  no_step Raise e = no_part e
+  no_step Lower e = sym (no_part e)
 
 -- ---- which coalitions are sound by the numbers
 

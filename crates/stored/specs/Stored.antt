@@ -3,7 +3,10 @@ use Rattle.std.specs.Prelude.{cond, List, ℕ, ◌+◌, ◌^◌, ◌<◌, ltb}
 use Rattle.model.specs.Sides.{Side, confidentiality, integrity}
 use Rattle.model.specs.Coalitions.{Marks, bit}
 use Rattle.model.specs.Live.{Numbers}
-use Rattle.planes.specs.Digits.{Digits}
+use Rattle.planes.specs.Digits.{Digits, Raised, Lowered}
+use Rattle.words.specs.declared.Row.{Row}
+use Rattle.stored.specs.declared.Step.{Step}
+use Rattle.stored.specs.declared.Step.TheVariants.{Raise, Lower}
 
 -- the row of numbers of a row of coalitions: those of the see side come first
 abbrev pub row_of : Side → ℕ → ℕ
@@ -25,3 +28,21 @@ more f m s c = f s c + bit (m s c)
 -- no number is too large for its digits
 abbrev pub Small : Numbers → Type 0
 Small f = (s : Side) (c : ℕ) → f s c < 128
+
+-- a row of numbers after a step
+abbrev pub RowStepped : Step → List ℕ → ℕ → Row → List ℕ → Type 0
+RowStepped Raise = Raised
+RowStepped Lower = Lowered
+
+-- the numbers before a step and after it, f with 1 more at each that is marked being one of the two
+abbrev pub before_of : Step → Numbers → Marks → Numbers
+before_of Raise f m = f
+before_of Lower f m = more f m
+
+abbrev pub after_of : Step → Numbers → Marks → Numbers
+after_of Raise f m = more f m
+after_of Lower f m = f
+
+-- the stored numbers after a step
+abbrev pub Steps : Step → ℕ → Marks → List ℕ → List ℕ → Type 0
+Steps step n m before after = (f : Numbers) → Stored n before (before_of step f m) → Stored n after (after_of step f m)

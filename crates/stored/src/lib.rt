@@ -11,10 +11,10 @@ ghost use Rattle.words.specs.FourWords.{RowsAt};
 ghost use Rattle.words.specs.Evaluation.{job_of};
 ghost use Rattle.counting.specs.Counted.{grant_in};
 ghost use Rattle.questions.specs.Searching.{verdict_of, judge_of};
-ghost use Rattle.stored.specs.Stored.{of_job, more, Stored, Small};
+ghost use Rattle.stored.specs.Stored.{of_job, more, Stored, Small, RowStepped, Steps};
 
 use questions::{Relation, Verdict};
-use words::Rows;
+use words::{Row, Rows};
 
 // Row g of the coalitions of n names that break grant k, on each side.
 fn breaking(ledger: &[u8], n: u64, k: usize, g: u64) -> Rows
@@ -28,33 +28,53 @@ fn breaking(ledger: &[u8], n: u64, k: usize, g: u64) -> Rows
     soundness::broken(ledger, k, g, all)
 }
 
-// 1 more at each coalition of n names that breaks grant k, on each side.
-fn raise(numbers: &mut [u64; 896], ledger: &[u8], n: u64, k: usize)
-    ensures { (f : Numbers) → Stored n numbers.old f → Stored n numbers.new (more f (breaks (marks_of (grant_in ledger.now k)))) }
-{
-    let rows = words::row_count(n);
-    let mut g: u64 = 0;
-    while g < rows {
-        let gone = breaking(ledger, n, k, g);
-        let at = g as usize;
-        planes::raise(numbers, at, gone.see);
-        planes::raise(numbers, 16 + at, gone.change);
-        g += 1;
-    }
+// What is done to the number of each coalition that breaks a grant.
+#[derive(Clone, Copy)]
+enum Step {
+    // 1 more.
+    Raise,
+    // 1 less.
+    Lower,
 }
 
-// 1 less likewise.
-fn lower(numbers: &mut [u64; 896], ledger: &[u8], n: u64, k: usize)
-    ensures { (f : Numbers) → Stored n numbers.old (more f (breaks (marks_of (grant_in ledger.now k)))) → Stored n numbers.new f }
-{
-    let rows = words::row_count(n);
-    let mut g: u64 = 0;
-    while g < rows {
-        let gone = breaking(ledger, n, k, g);
-        let at = g as usize;
-        planes::lower(numbers, at, gone.see);
-        planes::lower(numbers, 16 + at, gone.change);
-        g += 1;
+impl Step {
+    // Is done to each number of a row that is marked.
+    fn row(self, numbers: &mut [u64; 896], row: usize, marked: Row)
+        ensures { RowStepped self numbers.old row marked numbers.new }
+    {
+        match self {
+            Step::Raise => planes::raise(numbers, row, marked),
+            Step::Lower => planes::lower(numbers, row, marked),
+        }
+    }
+
+    // Is done to each coalition of n names that breaks grant k, on each side.
+    fn grant(self, numbers: &mut [u64; 896], ledger: &[u8], n: u64, k: usize)
+        ensures { Steps self n (breaks (marks_of (grant_in ledger.now k))) numbers.old numbers.new }
+    {
+        for g in 0..words::row_count(n) {
+            let gone = breaking(ledger, n, k, g);
+            let at = g as usize;
+            self.row(numbers, at, gone.see);
+            self.row(numbers, 16 + at, gone.change);
+        }
+    }
+
+    // The same, if the grant counts under the label on the day.
+    fn counting(
+        self,
+        numbers: &mut [u64; 896],
+        ledger: &[u8],
+        n: u64,
+        k: usize,
+        label: &[u8],
+        day: u32,
+    )
+        ensures { Steps self n (breaks_counting (under (job_of n) (term_in label.now) day) (grant_in ledger.now k)) numbers.old numbers.new }
+    {
+        if counting::counts(ledger, n, k, label, day) {
+            self.grant(numbers, ledger, n, k);
+        }
     }
 }
 
@@ -62,31 +82,21 @@ fn lower(numbers: &mut [u64; 896], ledger: &[u8], n: u64, k: usize)
 pub fn count_in(numbers: &mut [u64; 896], ledger: &[u8], n: u64, k: usize, label: &[u8], day: u32)
     ensures { (f : Numbers) → Stored n numbers.old f → Stored n numbers.new (more f (breaks_counting (under (job_of n) (term_in label.now) day) (grant_in ledger.now k))) }
 {
-    let counts = counting::counts(ledger, n, k, label, day);
-    if counts {
-        raise(numbers, ledger, n, k);
-    }
+    Step::Raise.counting(numbers, ledger, n, k, label, day);
 }
 
 // And taken away, if it counts.
 pub fn count_out(numbers: &mut [u64; 896], ledger: &[u8], n: u64, k: usize, label: &[u8], day: u32)
     ensures { (f : Numbers) → Stored n numbers.old (more f (breaks_counting (under (job_of n) (term_in label.now) day) (grant_in ledger.now k))) → Stored n numbers.new f }
 {
-    let counts = counting::counts(ledger, n, k, label, day);
-    if counts {
-        lower(numbers, ledger, n, k);
-    }
+    Step::Lower.counting(numbers, ledger, n, k, label, day);
 }
 
 // All numbers become 0.
 pub fn clear(numbers: &mut [u64; 896])
     ensures { length numbers.old ≡ 896 → ((n : ℕ) → Stored n numbers.new (λ s c. 0)) }
 {
-    let mut k: usize = 0;
-    while k < 896 {
-        numbers[k] = 0;
-        k += 1;
-    }
+    numbers.fill(0);
 }
 
 // Those of two rows whose numbers are 0: the sound ones. Where there are none to ask of, no number is read.
@@ -108,18 +118,14 @@ fn sound(numbers: &[u64; 896], g: u64, of: Rows) -> Rows
 pub fn judge(relation: Relation, numbers: &[u64; 896], n: u64, p: &[u8], q: &[u8]) -> Verdict
     ensures { (f : Numbers) → Stored n numbers.now f → Small f → verdict_of result ≡ judge_of relation (job_of n) (sound_by f) (term_in p.now) (term_in q.now) }
 {
-    let rows = words::row_count(n);
     let mut found = Verdict::Holds;
-    let mut g: u64 = 0;
-    while g < rows {
+    for g in 0..words::row_count(n) {
         let left = questions::still(found, questions::opposed(relation, n, p, q, g));
         let against = sound(numbers, g, left);
         found = questions::further(found, g, against);
-        let unseen = words::empty(against.see);
-        if !unseen {
+        if !words::empty(against.see) {
             return found;
         }
-        g += 1;
     }
     found
 }

@@ -12,19 +12,19 @@ use Rattle.extracts.proofs.mark_sound.Goals.{In-loop-g}
 
 pub loop-g-init : goal.loop-g-init
 loop-g-init c =
-    (omega arith, (ap length c.requires.0, ap length c.requires.1), filled_start c.args.n _ c.args.see.now c.args.change.now c.requires.0 c.requires.1)
+    ((ap length c.requires.0, ap length c.requires.1), filled_start c.args.n _ c.args.see.now c.args.change.now c.requires.0 c.requires.1)
 
 -- there are 16 rows at most
 few : (c : In-loop-g) → c.loop-g.g < 16
-few c = omega (arith, c.row_count-rows.ensures, rows_few c.args.n)
+few c = omega (arith, c.row_count-g-end.ensures, rows_few c.args.n)
 
 pub put_row-requires : goal.put_row-requires
 put_row-requires c =
-    (few (goal.at.put_row-requires c).In-loop-g, c.loop-g.invariant.1.0)
+    (few (goal.at.put_row-requires c).In-loop-g, c.loop-g.invariant.0.0)
 
 pub put_row-requires-in-loop-g : goal.put_row-requires-in-loop-g
 put_row-requires-in-loop-g c =
-    (few (goal.at.put_row-requires-in-loop-g c).In-loop-g, c.loop-g.invariant.1.1)
+    (few (goal.at.put_row-requires-in-loop-g c).In-loop-g, c.loop-g.invariant.0.1)
 
 pub loop-g-preserved : goal.loop-g-preserved
 loop-g-preserved c =
@@ -32,18 +32,17 @@ loop-g-preserved c =
     let a = c.args in
     let S = sound_in a.ledger.now a.grants a.chosen in
     let h = few (goal.at.loop-g-preserved c).In-loop-g in (
-      omega arith,
       (
-        turn_length l.see c.put_row.new.half l.g c.sound_row-sound.result.see h c.put_row.ensures l.invariant.1.0,
-        turn_length l.change c.put_row-in-loop-g.new.half l.g c.sound_row-sound.result.change h c.put_row-in-loop-g.ensures l.invariant.1.1,
+        turn_length l.see c.put_row.new.half l.g c.sound_row-sound.result.see h c.put_row.ensures l.invariant.0.0,
+        turn_length l.change c.put_row-in-loop-g.new.half l.g c.sound_row-sound.result.change h c.put_row-in-loop-g.ensures l.invariant.0.1,
       ),
       record {
-        see_half = turn_half l.see c.put_row.new.half l.g c.sound_row-sound.result.see h c.put_row.ensures (mark a.n (S confidentiality)) (c.sound_row-sound.ensures.row confidentiality) l.invariant.2.see_half;
-        change_half = turn_half l.change c.put_row-in-loop-g.new.half l.g c.sound_row-sound.result.change h c.put_row-in-loop-g.ensures (mark a.n (S integrity)) (c.sound_row-sound.ensures.row integrity) l.invariant.2.change_half;
+        see_half = turn_half l.see c.put_row.new.half l.g c.sound_row-sound.result.see h c.put_row.ensures (mark a.n (S confidentiality)) (c.sound_row-sound.ensures.row confidentiality) l.invariant.1.see_half;
+        change_half = turn_half l.change c.put_row-in-loop-g.new.half l.g c.sound_row-sound.result.change h c.put_row-in-loop-g.ensures (mark a.n (S integrity)) (c.sound_row-sound.ensures.row integrity) l.invariant.1.change_half;
       },
     )
 
 pub returns : goal.returns
 returns c =
     let l = c.loop-g in
-    filled_end c.args.n _ l.g l.see l.change (omega (arith, c.row_count-rows.ensures)) l.invariant.2
+    filled_end c.args.n _ l.g l.see l.change (omega (arith, c.row_count-g-end.ensures)) l.invariant.1

@@ -1,12 +1,9 @@
-use Prim.Native.Nat.{◌*◌}
-use native.Mathlib.Omega.{arith}
-use Rattle.extracts.specs.Halves.{little_endian}
-use Rattle.extracts.proofs.Pasting.{paste_more}
-use Rattle.extracts.proofs.WordBytes.{length_bytes, byte_at}
+use Rattle.std.proofs.Common.{◌∙◌, arith}
+use Rattle.std.proofs.lemmas.Slice.{put_mid-paste}
+use Rattle.extracts.proofs.WordBytes.{length_bytes, bytes_are}
 use Rattle.extracts.proofs.put_word.Goals as goal
 
-pub loop-k-preserved : goal.loop-k-preserved
-loop-k-preserved c =
-    let l = c.loop-k in
-    let a = c.args in
-    (omega arith, paste_more a.half.now l.half (8 * a.w) l.k _ (little_endian 8 a.word) (omega arith) (omega (arith, length_bytes 8 a.word)) (byte_at 8 a.word l.k (omega arith)) l.invariant.1)
+pub returns : goal.returns
+returns c =
+    let word = c.args.word in
+    put_mid-paste _ _ _ _ _ 8 (c.copy_from_slice.ensures.after ∙ c.to_le_bytes.ensures ∙ bytes_are word) (omega arith) (omega (arith, length_bytes 8 word))

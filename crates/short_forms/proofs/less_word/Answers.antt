@@ -13,5 +13,5 @@ returns-then-i-lt6 c = less_moved _ _ _ _ c.if-i-lt6.true (c.type_inv.marks c.ar
 pub returns-then-w-i-eq1 : goal.returns-then-w-i-eq1
 returns-then-w-i-eq1 c = less_read _ _ _ c.if-i-lt6.false (omega arith) (is_member _ _ c.if-w-i-eq1.true) (c.type_inv.marks _).fits
 
-pub returns : goal.returns
-returns c = less_nowhere _ _ c.if-i-lt6.false _ (no_member _ _ c.if-w-i-eq1.false)
+pub returns-else-w-i-eq1 : goal.returns-else-w-i-eq1
+returns-else-w-i-eq1 c = less_nowhere _ _ c.if-i-lt6.false _ (no_member _ _ c.if-w-i-eq1.false)

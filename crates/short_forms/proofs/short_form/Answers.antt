@@ -1,20 +1,30 @@
-use Rattle.std.proofs.Common.{sym, ap, ◌∙◌, arith, inl, inr}
-use mathlib.Core.Logic.{⊎_elim}
-use Rattle.terms.specs.Readings.{term_refusal}
-use Rattle.terms.specs.declared.TermReading.TheVariants.{Refused}
+-- The refusals in their order, and then the short form.
+use Rattle.std.proofs.Common.{◌≡◌, ◌&&◌, sym, ◌∙◌, rules, arith}
+use lib.Dec.{leb}
+use Rattle.std.proofs.lemmas.Result.{err_from_is_err_and}
+use Rattle.refusals.specs.declared.Refusal.TheVariants.{Term}
+use Rattle.terms.proofs.Accepted.{accepted_as, refused_as}
 use Rattle.short_forms.proofs.Answering.{answer_7, answer_8, answer_term, answer_written}
 use Rattle.short_forms.proofs.short_form.Goals as goal
+use Rattle.short_forms.proofs.short_form.Goals.{After-contains}
 
-pub returns-then-n-lt1 : goal.returns-then-n-lt1
-returns-then-n-lt1 c = answer_7 _ _ _ (⊎_elim (λ h. inl h) (λ h. inr h.1) c.then-n-lt1.either)
+-- what the test of n says
+told : (c : After-contains) → c.contains.result ≡ (leb 1 c.args.n && leb c.args.n 12)
+told c = search rules
+
+pub returns-then-not-contains : goal.returns-then-not-contains
+returns-then-not-contains c = answer_7 _ _ _ (sym (told (goal.at.returns-then-not-contains c).After-contains) ∙ c.if-not-contains.true)
 
 pub returns-then-buffer-lt3700 : goal.returns-then-buffer-lt3700
-returns-then-buffer-lt3700 c = answer_8 _ _ _ (omega arith) (omega arith) (omega arith)
+returns-then-buffer-lt3700 c = answer_8 _ _ _ (sym (told (goal.at.returns-then-buffer-lt3700 c).After-contains) ∙ c.if-not-contains.false) (omega arith)
 
-pub returns-in_default : goal.returns-in_default
-returns-in_default c =
-    answer_term _ _ _ (omega arith) (omega arith) (omega arith) _
-    (sym c.read_term-reading.ensures ∙ c.in_default.is ∙ ap Refused (sym (c.term_refusal.ensures ∙ ap term_refusal c.in_default.is)))
+pub returns-in_err-map_err : goal.returns-in_err-map_err
+returns-in_err-map_err c =
+    let few = sym (told (goal.at.returns-in_err-map_err c).After-contains) ∙ c.if-not-contains.false in
+    let p = err_from_is_err_and c.from_residual.result c.from_residual.ensures.1 in
+    rw (p.1, p.2) (answer_term _ _ _ few (omega arith) _ (refused_as _ _ _ c.read_term.ensures Term _ c.map_err.ensures.cases _ c.in_err-map_err.was))
 
 pub returns : goal.returns
-returns c = answer_written _ _ _ (omega arith) (omega arith) (omega arith) _ _ (sym c.read_term-reading.ensures ∙ c.in-Accepted.is) c.write.ensures
+returns c =
+    let few = sym (told (goal.at.returns c).After-contains) ∙ c.if-not-contains.false in
+    answer_written _ _ _ few (omega arith) _ _ (accepted_as _ _ _ c.read_term.ensures Term _ c.map_err.ensures.cases _ c.in_ok-map_err.was) c.write.ensures

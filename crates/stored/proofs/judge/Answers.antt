@@ -18,19 +18,16 @@ use Rattle.stored.proofs.judge.Goals.{After-sound-against}
 
 pub loop-g-init : goal.loop-g-init
 loop-g-init c =
-    let a = c.args in (
-      c.row_count-rows.ensures,
-      omega arith,
-      λ f h small.
-          let R : Marks = refuters_of a.relation a.n (sound_by (of_job a.n f)) (term_in a.p.now) (term_in a.q.now) in
-          (lowest-zero (R confidentiality), found_none R),
-    )
+    let a = c.args in
+    λ f h small.
+    let R : Marks = refuters_of a.relation a.n (sound_by (of_job a.n f)) (term_in a.p.now) (term_in a.q.now) in
+    (lowest-zero (R confidentiality), found_none R)
 
 few : (c : After-sound-against) → c.loop-g.g < 16
-few c = omega (arith, c.loop-g.invariant.0, rows_few c.args.n)
+few c = omega (arith, c.row_count-g-end.ensures, rows_few c.args.n)
 
 pub sound-against-requires : goal.sound-against-requires
-sound-against-requires c = omega (arith, c.loop-g.invariant.0, rows_few c.args.n)
+sound-against-requires c = omega (arith, c.row_count-g-end.ensures, rows_few c.args.n)
 
 -- the refuters that are searched for
 abbrev refuters : After-sound-against → Numbers → Marks
@@ -40,7 +37,7 @@ refuters o f = let a = o.args in refuters_of a.relation a.n (sound_by (of_job a.
 deciding : (c : After-sound-against) (f : Numbers) → Stored c.args.n c.args.numbers.now f → Small f → Deciding (refuters c f) c.loop-g.found c.loop-g.g c.sound-against.result
 deciding c f h small =
     let a = c.args in
-    let v = c.loop-g.invariant.2 f h small in
+    let v = c.loop-g.invariant f h small in
     record {
       clear = v.0;
       so_far = v.1;
@@ -51,27 +48,23 @@ deciding c f h small =
 see_row : (c : After-sound-against) (f : Numbers) → Stored c.args.n c.args.numbers.now f → Small f → RowAt (refuters c f confidentiality) c.loop-g.g c.sound-against.result.see
 see_row c f h small = see_still (refuters c f) c.loop-g.found c.loop-g.g _ ((deciding c f h small).rows.row confidentiality)
 
-pub returns-then-not-unseen : goal.returns-then-not-unseen
-returns-then-not-unseen c f h small =
+pub returns-then-not-empty : goal.returns-then-not-empty
+returns-then-not-empty c f h small =
     let a = c.args in
     c.further-found.ensures
-    ∙ further_is (refuters (goal.at.returns-then-not-unseen c).After-sound-against f) c.loop-g.g _ c.loop-g.found (few (goal.at.returns-then-not-unseen c).After-sound-against) (deciding (goal.at.returns-then-not-unseen c).After-sound-against f h small)
-    ∙ found_see (refuters (goal.at.returns-then-not-unseen c).After-sound-against f) c.loop-g.g _ (256 * row_count a.n) (see_row (goal.at.returns-then-not-unseen c).After-sound-against f h small) (sym c.empty-unseen.ensures ∙ c.if-not-unseen.true) (omega (arith, c.loop-g.invariant.0))
+    ∙ further_is (refuters (goal.at.returns-then-not-empty c).After-sound-against f) c.loop-g.g _ c.loop-g.found (few (goal.at.returns-then-not-empty c).After-sound-against) (deciding (goal.at.returns-then-not-empty c).After-sound-against f h small)
+    ∙ found_see (refuters (goal.at.returns-then-not-empty c).After-sound-against f) c.loop-g.g _ (256 * row_count a.n) (see_row (goal.at.returns-then-not-empty c).After-sound-against f h small) (sym c.empty.ensures ∙ c.if-not-empty.true) (omega (arith, c.row_count-g-end.ensures))
     ∙ found_all a.relation a.n _ _ _
     ∙ judge_job a.relation a.n f _ _
 
 pub loop-g-preserved : goal.loop-g-preserved
-loop-g-preserved c = (
-  c.loop-g.invariant.0,
-  omega arith,
-  λ f h small. (
-    see_clear (refuters (goal.at.loop-g-preserved c).After-sound-against f) c.loop-g.g _ (c.loop-g.invariant.2 f h small).0 (see_row (goal.at.loop-g-preserved c).After-sound-against f h small) (sym c.empty-unseen.ensures ∙ c.if-not-unseen.false),
-    c.further-found.ensures ∙ further_is (refuters (goal.at.loop-g-preserved c).After-sound-against f) c.loop-g.g _ c.loop-g.found (few (goal.at.loop-g-preserved c).After-sound-against) (deciding (goal.at.loop-g-preserved c).After-sound-against f h small),
-  ),
+loop-g-preserved c = λ f h small. (
+  see_clear (refuters (goal.at.loop-g-preserved c).After-sound-against f) c.loop-g.g _ (c.loop-g.invariant f h small).0 (see_row (goal.at.loop-g-preserved c).After-sound-against f h small) (sym c.empty.ensures ∙ c.if-not-empty.false),
+  c.further-found.ensures ∙ further_is (refuters (goal.at.loop-g-preserved c).After-sound-against f) c.loop-g.g _ c.loop-g.found (few (goal.at.loop-g-preserved c).After-sound-against) (deciding (goal.at.loop-g-preserved c).After-sound-against f h small),
 )
 
 pub returns : goal.returns
 returns c f h small =
     let a = c.args in
-    let end : c.loop-g.g ≡ row_count a.n = omega (arith, c.loop-g.invariant.0) in
-    (c.loop-g.invariant.2 f h small).1 ∙ ap (λ (g : ℕ). found_to (refuters_of a.relation a.n (sound_by (of_job a.n f)) (term_in a.p.now) (term_in a.q.now)) (256 * g)) end ∙ found_all a.relation a.n _ _ _ ∙ judge_job a.relation a.n f _ _
+    let end : c.loop-g.g ≡ row_count a.n = omega (arith, c.row_count-g-end.ensures) in
+    (c.loop-g.invariant f h small).1 ∙ ap (λ (g : ℕ). found_to (refuters_of a.relation a.n (sound_by (of_job a.n f)) (term_in a.p.now) (term_in a.q.now)) (256 * g)) end ∙ found_all a.relation a.n _ _ _ ∙ judge_job a.relation a.n f _ _

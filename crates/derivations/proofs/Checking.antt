@@ -3,117 +3,158 @@ use Prim.Native.Nat.{ℕ, suc, ◌+◌, ◌-◌, ◌%◌, ◌≤◌, ◌<◌}
 use native.Mathlib.Nat.{sub-zero}
 use native.Mathlib.Numerals.{add-one}
 use native.Mathlib.Omega.{arith}
-use mathlib.Core.Path.{◌≡◌, refl, ap, subst, ◌∙◌}
+use mathlib.Core.Path.{◌≡◌, refl, subst, ◌∙◌}
 use mathlib.Core.Bool.{Bool, true, false, cond, not, ◌&&◌, ◌||◌}
 use mathlib.Core.List.{List, []}
 use lib.Dec.{eqb, ltb, leb}
 use lib.ListN.{length}
 use borrow.Author.Tests.{leb-true}
 use Rattle.model.specs.Bytes.{byte}
-use Rattle.model.specs.Readings.{Reading, accepted, refused, require, is_accepted}
 use Rattle.model.specs.Coalitions.{member}
+use Rattle.model.specs.Readings.{Reading, accepted, refused, and_then, require, refused_as, is_accepted}
 use Rattle.model.specs.Terms.{Term}
 use Rattle.model.specs.Dates.{real_date}
 use Rattle.model.specs.Grants.{under, counts_under, Grant, of_grant}
 use Rattle.model.specs.Ledgers.{read_book, Ledger, grant_block}
-use Rattle.model.specs.Answers.{Answer, Yes, RefusedAt, Refused as RefusedAnswer}
-use Rattle.model.specs.Derivations.{step_at, rule_of, uses_of, step_form, read_left, read_right, check_step, on_step, check_steps, derivation_length, step_count, check_derivation, if_accepted, quote}
-use Rattle.model.specs.Meanings.{grant_bits}
+use Rattle.model.specs.Answers.{Answer, Yes, Refused as RefusedAnswer}
+use Rattle.model.specs.Derivations.{step_at, Rule, no_rule, rule_of, uses_of, step_form, read_left, read_right, meets, check_step, on_step, check_steps, derivation_length, step_count, check_derivation, if_accepted, quote}
 use Rattle.model.proofs.Truth.{and_right}
 use Rattle.model.proofs.Stands.{ledger_stands}
-use Rattle.terms.specs.Readings.{term_reading}
-use Rattle.ledgers.specs.Readings.{LedgerOf}
-use Rattle.ledgers.proofs.Accepted.{AcceptedBook}
-use Rattle.terms.specs.declared.TermReading.{TermReading}
-use Rattle.terms.specs.declared.TermReading.TheVariants.{Accepted as TermAccepted, Refused as TermRefused}
-use Rattle.counting.specs.Counted.{counted_in}
 use Rattle.model.proofs.Prefixes.{bits_say}
+use Rattle.refusals.specs.Results.{done}
+use Rattle.ledgers.specs.declared.Sizes.{Sizes}
+use Rattle.ledgers.proofs.Accepted.{AcceptedBook}
+use Rattle.counting.specs.Counted.{counted_in}
 use Rattle.counting.proofs.Accepted.{counted_in_lem}
-use Rattle.derivations.specs.Steps.{read_field, read_step, premises_before, Ready, meets_at, check_at, step_check}
-use Rattle.derivations.specs.declared.StepCheck.{StepCheck}
-use Rattle.derivations.specs.declared.StepCheck.TheVariants.{Accepted, Refused}
+use Rattle.derivations.specs.Steps.{read_field, read_step, premises_before, grant_check, BookOf, Ready, check_at}
 
--- the term was accepted
-abbrev pub told : TermReading → Bool
-told TermAccepted = true
-told (TermRefused r) = false
+-- ---- a step by itself
 
-term_told : (a : Reading Term) → is_accepted a ≡ told (term_reading a)
-term_told (accepted t) = refl
-term_told (refused r) = refl
+-- a term was read, or not: `why` is the refusal then
+told : (why : ℕ) (a : Reading Term) → done (refused_as why a) ≡ require (is_accepted a) why (accepted tt)
+told why (accepted t) = refl
+told why (refused r) = refl
 
-pub left_told : (n : ℕ) (step : List ℕ) (s : TermReading) → term_reading (read_field 4 8 n step) ≡ s → is_accepted (read_left n step) ≡ told s
-unfolding read_left read_field
-left_told n step s e = term_told (read_left n step) ∙ ap told e
+module _ (n : ℕ) (step : List ℕ) where
+  -- a byte that is no rule
+  pub no_form : no_rule ≡ rule_of (byte 0 step) → refused 61 ≡ read_step n (rule_of (byte 0 step)) step
+  unfolding read_step step_form
+  no_form e = rw (← e)
 
-pub right_told : (n : ℕ) (step : List ℕ) (s : TermReading) → term_reading (read_field 5 72 n step) ≡ s → is_accepted (read_right n step) ≡ told s
-unfolding read_right read_field
-right_told n step s e = term_told (read_right n step) ∙ ap told e
+  module _ (r : Rule) (is : r ≡ rule_of (byte 0 step)) where
+    pub form_refused : step_form r step ≡ false → refused 61 ≡ read_step n (rule_of (byte 0 step)) step
+    unfolding read_step
+    form_refused e = rw (← is, e)
 
--- ---- a step
+    module _ (form : step_form r step ≡ true) where
+      pub left_refused : (k : ℕ) → refused k ≡ done (refused_as 62 (read_field 4 8 n step)) → refused k ≡ read_step n (rule_of (byte 0 step)) step
+      unfolding read_step read_left read_field
+      left_refused k e = rw (← is, form) (by (read_left n step) e)
+        where
+          by : (a : Reading Term) → refused k ≡ done (refused_as 62 a) → refused k ≡ require (is_accepted a) 62 (require (is_accepted (read_right n step)) 63 (accepted r))
+          by (accepted t) f = cc
+          by (refused j) f = let same : k ≡ 62 = cc in rw same
 
--- what follows the reading of a step; a refusal stays the answer
-abbrev pub on_read : StepCheck → StepCheck → StepCheck
-on_read Accepted next = next
-on_read (Refused r) next = Refused r
+      pub right_refused : (k : ℕ) (u : Unit {0}) → accepted u ≡ done (refused_as 62 (read_field 4 8 n step)) → refused k ≡ done (refused_as 63 (read_field 5 72 n step))
+          → refused k ≡ read_step n (rule_of (byte 0 step)) step
+      unfolding read_step read_left read_right read_field
+      right_refused k u p e = rw (← is, form) (by (read_left n step) (read_right n step) p e)
+        where
+          by : (a b : Reading Term) → accepted u ≡ done (refused_as 62 a) → refused k ≡ done (refused_as 63 b) → refused k ≡ require (is_accepted a) 62 (require (is_accepted b) 63 (accepted r))
+          by (accepted t) (accepted s) f g = cc
+          by (accepted t) (refused j) f g = let same : k ≡ 63 = cc in rw same
+          by (refused i) b f g = cc
 
--- the four tests after it: the premises are earlier steps, there is such a grant, it counts, the rule is met
-abbrev pub tests : Bool → Bool → Bool → Bool → StepCheck
-tests earlier exists counted met = step_check (require earlier 64 (require exists 65 (require counted 66 (require met 67 (accepted tt)))))
+      pub step_read : (u v : Unit {0}) → accepted u ≡ done (refused_as 62 (read_field 4 8 n step)) → accepted v ≡ done (refused_as 63 (read_field 5 72 n step))
+          → accepted r ≡ read_step n (rule_of (byte 0 step)) step
+      unfolding read_step read_left read_right read_field
+      step_read u v p q = rw (← is, form) (by (read_left n step) (read_right n step) p q)
+        where
+          by : (a b : Reading Term) → accepted u ≡ done (refused_as 62 a) → accepted v ≡ done (refused_as 63 b) → accepted r ≡ require (is_accepted a) 62 (require (is_accepted b) 63 (accepted r))
+          by (accepted t) (accepted s) f g = refl
+          by (accepted t) (refused j) f g = cc
+          by (refused i) b f g = cc
 
-read_then : (form p q : Bool) (rest : Reading (Unit {0})) → step_check (require form 61 (require p 62 (require q 63 rest))) ≡ on_read (step_check (require form 61 (require p 62 (require q 63 (accepted tt))))) (step_check rest)
-read_then false p q rest = refl
-read_then true false q rest = refl
-read_then true true false rest = refl
-read_then true true true rest = refl
+-- what a rule that was read tells of the step
+record StepRead (n : ℕ) (r : Rule) (step : List ℕ) : Type 0 where
+  left_read : is_accepted (read_left n step) ≡ true
+  right_read : is_accepted (read_right n step) ≡ true
 
-read_passed : (form p q : Bool) → step_check (require form 61 (require p 62 (require q 63 (accepted tt)))) ≡ Accepted → (p ≡ true) × (q ≡ true)
-read_passed false p q e = absurd (let z : ◌≡◌ {A = ℕ} 0 1 = cc in omega arith)
-read_passed true false q e = absurd (let z : ◌≡◌ {A = ℕ} 0 1 = cc in omega arith)
-read_passed true true false e = absurd (let z : ◌≡◌ {A = ℕ} 0 1 = cc in omega arith)
-read_passed true true true e = (refl, refl)
+read_told : (n : ℕ) (r s : Rule) (step : List ℕ) → accepted r ≡ read_step n s step → StepRead n r step
+unfolding read_step
+read_told n r s step e = by (step_form s step) (is_accepted (read_left n step)) (is_accepted (read_right n step)) refl refl e
+  where
+    by : (form p q : Bool) → is_accepted (read_left n step) ≡ p → is_accepted (read_right n step) ≡ q → accepted r ≡ require form 61 (require p 62 (require q 63 (accepted s))) → StepRead n r step
+    by true true true f g h = record { left_read = f; right_read = g }
+    by true true false f g h = cc
+    by true false q f g h = cc
+    by false p q f g h = cc
 
-module _ (ledger : List ℕ) (n grants : ℕ) (l : Ledger) (of : LedgerOf ledger n grants l) (step : List ℕ) where
-  -- the rule can be judged once the step is read and its grant is there
-  pub ready_for : step_check (read_step n (rule_of (byte 0 step)) step) ≡ Accepted → (not (uses_of (rule_of (byte 0 step))).grant || ltb (byte 3 step) grants) ≡ true → Ready ledger n step l
-  unfolding read_step
-  ready_for e g =
-      let form = step_form (rule_of (byte 0 step)) step in
-      let p = is_accepted (read_left n step) in
-      let q = is_accepted (read_right n step) in
-      let passed = read_passed form p q e in
-      record { is = of.is; names = of.names; left_read = passed.0; right_read = passed.1; grant_there = rw (← of.count) g }
+-- ---- a step of a derivation
 
-  -- the answer for step k, from what each test said
-  pub check_told : (d : List ℕ) (k : ℕ) → step ≡ step_at d k → (f : Grant → Bool) (bits : ℕ) → bits ≡ grant_bits f l.grants → (read : StepCheck) (earlier exists counted met : Bool)
-      → step_check (read_step n (rule_of (byte 0 step)) step) ≡ read
-      → premises_before (rule_of (byte 0 step)) step k ≡ earlier
-      → (not (uses_of (rule_of (byte 0 step))).grant || ltb (byte 3 step) grants) ≡ exists
-      → (not (uses_of (rule_of (byte 0 step))).grant || member (byte 3 step) bits) ≡ counted
-      → meets_at l d step ≡ met
-      → step_check (check_at l f d k) ≡ on_read read (tests earlier exists counted met)
-  unfolding check_step read_step
-  check_told d k at f bits are read earlier exists counted met e b g h m =
+-- the tests of a step by itself, and then those of its rule
+all : (form p q : Bool) (r : Rule) (after : Rule → Reading (Unit {0})) (earlier there counted met : Bool)
+    → require earlier 64 (and_then (require there 65 (require counted 66 (accepted (tt {0})))) (λ u. require met 67 (accepted (tt {0})))) ≡ after r
+    → require form 61 (require p 62 (require q 63 (require earlier 64 (require there 65 (require counted 66 (require met 67 (accepted (tt {0}))))))))
+    ≡ and_then (require form 61 (require p 62 (require q 63 (accepted r)))) after
+all false p q r after a b c d e = refl
+all true false q r after a b c d e = refl
+all true true false r after a b c d e = refl
+all true true true r after false b c d e = e
+all true true true r after true false c d e = e
+all true true true r after true true false d e = e
+all true true true r after true true true d e = e
+
+-- the tests of a step's rule, after the step by itself: its premises, its grant, and the rule
+tests : (grants bits : ℕ) → Ledger → List ℕ → ℕ → List ℕ → Rule → Reading (Unit {0})
+tests grants bits l d k step r =
+    require (premises_before r step k) 64
+    (and_then (grant_check r step grants bits)
+    (λ u. require (meets l r step (step_at d (byte 1 step)) (step_at d (byte 2 step))) 67 (accepted tt)))
+
+module _ (ledger : List ℕ) (sizes : Sizes) (bits : ℕ) (l : Ledger) (f : Grant → Bool) (book : BookOf ledger sizes bits l f) (d : List ℕ) (k : ℕ) (step : List ℕ) (at : step ≡ step_at d k) where
+  answer : check_at l f d k ≡ and_then (read_step sizes.names (rule_of (byte 0 step)) step) (tests sizes.grants bits l d k step)
+  unfolding check_step read_step tests
+  answer =
       let r = rule_of (byte 0 step) in
-      let here : step_check (read_step l.names r step) ≡ read = rw (← of.names) e in
-      let there : (not (uses_of r).grant || ltb (byte 3 step) (length l.grants)) ≡ exists = rw (← of.count) g in
-      let many : length l.grants ≤ 64 = (ledger_stands ledger l of.is).count_most in
-      let each : member (byte 3 step) bits ≡ of_grant f l.grants (byte 3 step) = rw are (bits_say f l.grants (byte 3 step) many) in
-      let one : (not (uses_of r).grant || of_grant f l.grants (byte 3 step)) ≡ counted = rw (← each) h in
-      subst (λ (s : List ℕ). step_check (check_step l f d k s (rule_of (byte 0 s))) ≡ on_read read (tests earlier exists counted met)) at
-      (read_then (step_form r step) (is_accepted (read_left l.names step)) (is_accepted (read_right l.names step)) _
-      ∙ rw (here, b, there, one, m))
+      let many : length l.grants ≤ 64 = (ledger_stands ledger l book.of.is).count_most in
+      let each : member (byte 3 step) bits ≡ of_grant f l.grants (byte 3 step) = rw book.are (bits_say f l.grants (byte 3 step) many) in
+      subst (λ (s : List ℕ). check_step l f d k s (rule_of (byte 0 s)) ≡ and_then (read_step sizes.names r step) (tests sizes.grants bits l d k step)) at
+      (rw book.of.names
+      (all (step_form r step) (is_accepted (read_left l.names step)) (is_accepted (read_right l.names step)) r (tests sizes.grants bits l d k step)
+      (premises_before r step k) (not (uses_of r).grant || ltb (byte 3 step) (length l.grants)) (not (uses_of r).grant || of_grant f l.grants (byte 3 step))
+      (meets l r step (step_at d (byte 1 step)) (step_at d (byte 2 step))) (rw (book.of.count, each))))
+
+  pub unread : (why : ℕ) → refused why ≡ read_step sizes.names (rule_of (byte 0 step)) step → refused why ≡ check_at l f d k
+  unread why e = rw (answer, ← e)
+
+  module _ (r : Rule) (read : accepted r ≡ read_step sizes.names (rule_of (byte 0 step)) step) where
+    pub later : premises_before r step k ≡ false → refused 64 ≡ check_at l f d k
+    unfolding tests
+    later e = rw (answer, ← read, e)
+
+    module _ (earlier : premises_before r step k ≡ true) where
+      pub no_grant : (why : ℕ) → refused why ≡ grant_check r step sizes.grants bits → refused why ≡ check_at l f d k
+      unfolding tests
+      no_grant why e = rw (answer, ← read, earlier, ← e)
+
+      module _ (u : Unit {0}) (counts : accepted u ≡ grant_check r step sizes.grants bits) where
+        -- the rule can be judged once the step is read and its grant is there
+        pub ready : Ready ledger sizes.names r step l
+        ready =
+            let told = read_told sizes.names r _ step read in
+            record { is = book.of.is; names = book.of.names; left_read = told.left_read; right_read = told.right_read; grant_there = rw (← book.of.count) (there _ _ counts) }
+          where
+            there : (a b : Bool) → accepted u ≡ require a 65 (require b 66 (accepted tt)) → a ≡ true
+            there true b e = refl
+            there false b e = cc
+
+        module _ (met : Bool) (judged : met ≡ meets l r step (step_at d (byte 1 step)) (step_at d (byte 2 step))) where
+          pub last : check_at l f d k ≡ require met 67 (accepted tt)
+          unfolding tests
+          last = rw (answer, ← read, earlier, ← counts, judged)
 
 -- ---- the steps, one after another
-
--- what follows an accepted step; a refused one is the answer, with its number
-abbrev pub on_check : ℕ → StepCheck → Answer → Answer
-on_check k Accepted next = next
-on_check k (Refused r) next = RefusedAt k r
-
-step_then : (k : ℕ) (x : Reading (Unit {0})) (next : Answer) → on_step k x next ≡ on_check k (step_check x) next
-step_then k (accepted u) next = refl
-step_then k (refused r) next = refl
 
 module _ (l : Ledger) (f : Grant → Bool) (d : List ℕ) where
   -- the answer for step k and those after it
@@ -124,11 +165,11 @@ module _ (l : Ledger) (f : Grant → Bool) (d : List ℕ) where
   unfolding steps_from
   steps_start = rw (sub-zero (step_count d))
 
-  pub steps_more : (k : ℕ) (here : StepCheck) (whole : Answer) → k < step_count d → here ≡ step_check (check_at l f d k) → steps_from k ≡ whole → on_check k here (steps_from (k + 1)) ≡ whole
+  pub steps_more : (k : ℕ) → k < step_count d → steps_from k ≡ on_step k (check_at l f d k) (steps_from (k + 1))
   unfolding steps_from check_steps
-  steps_more k here whole h e w =
+  steps_more k h =
       let left : step_count d - k ≡ suc (step_count d - (k + 1)) = omega arith in
-      rw (e, ← step_then, add-one) (rw (left, add-one) at w)
+      rw (left, add-one)
 
   pub steps_end : (k : ℕ) → step_count d ≤ k → steps_from k ≡ Yes
   unfolding steps_from check_steps
@@ -143,28 +184,30 @@ length_most k e = leb-true k 8704 (and_right (leb 136 k) (leb k 8704) (and_right
 -- ---- the whole check: the day, the ledger and the label, the length, the steps
 
 module _ (d ledger label : List ℕ) (day : ℕ) where
-  pub day_refused : real_date day ≡ false → check_derivation d ledger label day ≡ RefusedAnswer 86
+  pub day_refused : real_date day ≡ false → RefusedAnswer 86 ≡ check_derivation d ledger label day
   unfolding check_derivation
   day_refused e = rw e
 
 module _ (d ledger label : List ℕ) (day : ℕ) (real : real_date day ≡ true) where
-  pub book_refused : (r : ℕ) → read_book ledger label day ≡ refused r → check_derivation d ledger label day ≡ RefusedAnswer r
+  pub book_refused : (r : ℕ) → read_book ledger label day ≡ refused r → RefusedAnswer r ≡ check_derivation d ledger label day
   unfolding check_derivation
   book_refused r e = rw (real, e)
 
-  module _ (n k : ℕ) (read : AcceptedBook ledger label n k) where
-    pub length_refused : derivation_length (length d) ≡ false → check_derivation d ledger label day ≡ RefusedAnswer 60
+  module _ (sizes : Sizes) (read : AcceptedBook ledger label sizes.names sizes.grants) where
+    pub length_refused : derivation_length (length d) ≡ false → RefusedAnswer 60 ≡ check_derivation d ledger label day
     unfolding check_derivation
     length_refused e = rw (real, read.is day, e)
 
     -- what the steps' check says of the bits, and what the bits are
     pub steps_checked : (bits : ℕ) (answer : Answer) → derivation_length (length d) ≡ true
-        → bits ≡ counted_in ledger n k label day
-        → ((l : Ledger) (f : Grant → Bool) → LedgerOf ledger n k l → bits ≡ grant_bits f l.grants → answer ≡ check_steps l f d 0 (step_count d))
+        → bits ≡ counted_in ledger sizes.names sizes.grants label day
+        → ((l : Ledger) (f : Grant → Bool) → BookOf ledger sizes bits l f → answer ≡ check_steps l f d 0 (step_count d))
         → answer ≡ check_derivation d ledger label day
     unfolding check_derivation
     steps_checked bits answer e counted checked =
-        rw (real, read.is day, e) (checked read.book (counts_under (under n read.L day)) read.of (counted ∙ counted_in_lem ledger n k read.book read.of read.L label day read.label_is))
+        rw (real, read.is day, e)
+        (checked read.book (counts_under (under sizes.names read.L day))
+        (record { of = read.of; are = counted ∙ counted_in_lem ledger sizes.names sizes.grants read.book read.of read.L label day read.label_is }))
 
 -- ---- quoting
 

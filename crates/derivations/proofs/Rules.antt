@@ -1,59 +1,55 @@
--- The rules by their numbers: which fields they use, as ranges, and the form of a step. Assumes nothing.
-use Prim.Native.Nat.{ℕ, zero, suc, ◌<◌}
-use native.Mathlib.Omega.{arith}
-use mathlib.Core.Logic.{◌⊎◌, inl, inr, ⊎_elim}
-use mathlib.Core.Path.{◌≡◌, refl, sym}
-use mathlib.Core.Bool.{false, ◌&&◌, and_assoc, and-false}
-use mathlib.Core.List.{List}
-use lib.Dec.{eqb, leb}
-use borrow.Author.Tests.{ne_eqb, lt-leb}
+-- The form of a step, fields and filler. Assumes nothing.
+use Rattle.std.specs.Prelude.{ℕ, Bool, List, true, false, cond, ◌&&◌, eqb}
+use borrow.Author.Tests.{eqb-true}
 use Rattle.model.specs.Sides.{confidentiality, integrity}
+use mathlib.Core.Path.{◌≡◌, refl}
+use mathlib.Core.Bool.{and_assoc}
 use Rattle.model.specs.Derivations.{Rule, static, granted, transitive, conjunction, disjunction, projection, no_rule, rule_of, is_rule, uses_of, step_form}
-use Rattle.derivations.specs.Steps.{fields_form, past_term, filler_form}
+use Rattle.fields.specs.Terms.{past_term}
+use Rattle.derivations.specs.Steps.{rule_is, fields_form, filler_form}
+use Rattle.derivations.specs.declared.Rule.{Rule as CodeRule}
+use Rattle.derivations.specs.declared.Rule.TheVariants.{Static, Granted, Transitive, Conjunction, Disjunction, Projection}
 
--- a byte that is no rule
-pub other_rule : (r : ℕ) → (r ≡ 1 → ⊥) → (r ≡ 2 → ⊥) → (r ≡ 3 → ⊥) → (r ≡ 4 → ⊥) → (r ≡ 5 → ⊥) → (r ≡ 6 → ⊥) → (r ≡ 7 → ⊥) → rule_of r ≡ no_rule
-unfolding rule_of
-other_rule r a b c d e f g = simp (ne_eqb r 1 a, ne_eqb r 2 b, ne_eqb r 3 c, ne_eqb r 4 d, ne_eqb r 5 e, ne_eqb r 6 f, ne_eqb r 7 g)
-
-no_rule_lem : (r : ℕ) → (r < 1) ⊎ (7 < r) → rule_of r ≡ no_rule
-no_rule_lem r (inl h) = other_rule r (λ e. omega arith) (λ e. omega arith) (λ e. omega arith) (λ e. omega arith) (λ e. omega arith) (λ e. omega arith) (λ e. omega arith)
-no_rule_lem r (inr h) = other_rule r (λ e. omega arith) (λ e. omega arith) (λ e. omega arith) (λ e. omega arith) (λ e. omega arith) (λ e. omega arith) (λ e. omega arith)
-
--- what holds of each rule with its number, and of no rule, holds of every byte
-pub rule_case : (P : ℕ → Rule → Type 0) → P 1 static → P 2 granted → P 3 transitive → P 4 conjunction → P 5 disjunction
-    → P 6 (projection confidentiality) → P 7 (projection integrity) → ((r : ℕ) → (r < 1) ⊎ (7 < r) → P r no_rule) → (r : ℕ) → P r (rule_of r)
-unfolding rule_of
-rule_case P a b c d e f g h zero = h zero (inl (omega arith))
-rule_case P a b c d e f g h (suc zero) = a
-rule_case P a b c d e f g h (suc (suc zero)) = b
-rule_case P a b c d e f g h (suc (suc (suc zero))) = c
-rule_case P a b c d e f g h (suc (suc (suc (suc zero)))) = d
-rule_case P a b c d e f g h (suc (suc (suc (suc (suc zero))))) = e
-rule_case P a b c d e f g h (suc (suc (suc (suc (suc (suc zero)))))) = f
-rule_case P a b c d e f g h (suc (suc (suc (suc (suc (suc (suc zero))))))) = g
-rule_case P a b c d e f g h (suc (suc (suc (suc (suc (suc (suc (suc r)))))))) =
-    let far : 7 < suc (suc (suc (suc (suc (suc (suc (suc r))))))) = omega arith in
-    rw (no_rule_lem (suc (suc (suc (suc (suc (suc (suc (suc r)))))))) (inr far)) (h (suc (suc (suc (suc (suc (suc (suc (suc r)))))))) (inr far))
-
--- outside a range
-outside : (a b r : ℕ) → (r < a) ⊎ (b < r) → (leb a r && leb r b) ≡ false
-outside a b r (inl h) = rw (lt-leb a r h)
-outside a b r (inr h) = rw (lt-leb r b h) (and-false (leb a r))
-
-pub is_rule_lem : (r : ℕ) → is_rule (rule_of r) ≡ (leb 1 r && leb r 7)
-is_rule_lem = rule_case (λ r k. is_rule k ≡ (leb 1 r && leb r 7)) refl refl refl refl refl refl refl (λ r h. sym (outside 1 7 r h))
-
-pub uses_first : (r : ℕ) → (uses_of (rule_of r)).first ≡ (leb 3 r && leb r 7)
-uses_first = rule_case (λ r k. (uses_of k).first ≡ (leb 3 r && leb r 7)) refl refl refl refl refl refl refl (λ r h. sym (outside 3 7 r (⊎_elim (λ a. inl (omega arith)) (λ a. inr (omega arith)) h)))
-
-pub uses_second : (r : ℕ) → (uses_of (rule_of r)).second ≡ (leb 3 r && leb r 5)
-uses_second = rule_case (λ r k. (uses_of k).second ≡ (leb 3 r && leb r 5)) refl refl refl refl refl refl refl (λ r h. sym (outside 3 5 r (⊎_elim (λ a. inl (omega arith)) (λ a. inr (omega arith)) h)))
-
-pub uses_grant : (r : ℕ) → (uses_of (rule_of r)).grant ≡ eqb r 2
-uses_grant = rule_case (λ r k. (uses_of k).grant ≡ eqb r 2) refl refl refl refl refl refl refl (λ r h. sym (ne_eqb r 2 (λ e. ⊎_elim (λ a. omega arith) (λ a. omega arith) h)))
-
--- the form of a step, fields and filler
-pub step_forms : (r : Rule) (step : List ℕ) → step_form r step ≡ (fields_form r step && filler_form step)
+step_forms : (r : Rule) (step : List ℕ) → step_form r step ≡ (is_rule r && (fields_form r step && filler_form step))
 unfolding step_form fields_form filler_form past_term
 step_forms r step = simp and_assoc
+
+-- each case is a rule
+a_rule : (rule : CodeRule) → is_rule (rule_is rule) ≡ true
+a_rule Static = refl
+a_rule Granted = refl
+a_rule Transitive = refl
+a_rule Conjunction = refl
+a_rule Disjunction = refl
+a_rule (Projection side) = refl
+
+pub form_is : (rule : CodeRule) (step : List ℕ) → step_form (rule_is rule) step ≡ (fields_form (rule_is rule) step && filler_form step)
+form_is rule step = rw (step_forms, a_rule rule)
+
+-- the rule that uses a grant is rule 2
+pub uses_grant_lem : (b : ℕ) → (uses_of (rule_of b)).grant ≡ eqb b 2
+unfolding rule_of
+uses_grant_lem b = go (eqb b 2) refl
+  where
+    others : (a c d e f g : Bool)
+        → (uses_of (cond a static (cond false granted (cond c transitive (cond d conjunction (cond e disjunction (cond f (projection confidentiality) (cond g (projection integrity) no_rule)))))))).grant ≡ false
+    others true c d e f g = refl
+    others false true d e f g = refl
+    others false false true e f g = refl
+    others false false false true f g = refl
+    others false false false false true g = refl
+    others false false false false false true = refl
+    others false false false false false false = refl
+
+    go : (is : Bool) → eqb b 2 ≡ is → (uses_of (rule_of b)).grant ≡ is
+    go true h = rw (eqb-true b 2 h)
+    go false h = rw h (others (eqb b 1) (eqb b 3) (eqb b 4) (eqb b 5) (eqb b 6) (eqb b 7))
+
+-- no other case does
+pub not_granted : (rule : CodeRule) → (rule ≡ Granted → ⊥) → (uses_of (rule_is rule)).grant ≡ false
+not_granted Static e = refl
+not_granted Granted e = absurd (e refl)
+not_granted Transitive e = refl
+not_granted Conjunction e = refl
+not_granted Disjunction e = refl
+not_granted (Projection side) e = refl

@@ -1,39 +1,25 @@
--- The refusals 61, 62 and 63 in their order.
-use mathlib.Core.Path.{◌≡◌, sym, ◌∙◌}
-use mathlib.Core.Bool.{Bool}
-use Rattle.model.specs.Bytes.{byte}
-use Rattle.model.specs.Readings.{is_accepted}
-use Rattle.model.specs.Derivations.{rule_of, step_form, read_left, read_right}
-use Rattle.terms.specs.declared.TermReading.{TermReading}
-use Rattle.derivations.specs.Steps.{read_step}
-use Rattle.derivations.proofs.Checking.{told, left_told, right_told}
+-- The form, then the two terms.
+use mathlib.Core.Path.{sym, ◌∙◌}
+use Rattle.std.proofs.lemmas.Result.{err_from_is_err_and}
+use Rattle.derivations.proofs.Checking.{no_form, form_refused, left_refused, right_refused, step_read}
 use Rattle.derivations.proofs.read_step.Goals as goal
-use Rattle.derivations.proofs.read_step.Goals.{After-read_field-p, After-read_field-q, After-step_form-form}
-
-form : (c : After-step_form-form) (s : Bool) → c.step_form-form.result ≡ s → let step = c.args.step.now in step_form (rule_of (byte 0 step)) step ≡ s
-form c s e = sym c.step_form-form.ensures ∙ e
-
-pub returns-then-not-form : goal.returns-then-not-form
-unfolding read_step
-returns-then-not-form c = simp (form (goal.at.returns-then-not-form c).After-step_form-form _ (c.if-not-form.true))
-
-p_told : (c : After-read_field-p) (s : TermReading) → c.read_field-p.result ≡ s → let a = c.args in is_accepted (read_left a.n a.step.now) ≡ told s
-p_told c s e = left_told _ _ s (sym c.read_field-p.ensures ∙ e)
 
 pub returns-in_default : goal.returns-in_default
-unfolding read_step
-returns-in_default c =
-    simp (form (goal.at.returns-in_default c).After-step_form-form _ (c.if-not-form.false), p_told (goal.at.returns-in_default c).After-read_field-p _ c.in_default.is)
+returns-in_default c = no_form c.args.n c.args.step.now c.in_default.ensures
 
-q_told : (c : After-read_field-q) (s : TermReading) → c.read_field-q.result ≡ s → let a = c.args in is_accepted (read_right a.n a.step.now) ≡ told s
-q_told c s e = right_told _ _ s (sym c.read_field-q.ensures ∙ e)
+pub returns-then-not-step_form : goal.returns-then-not-step_form
+returns-then-not-step_form c = form_refused _ _ _ c.in-Some.ensures (sym c.step_form.ensures ∙ c.if-not-step_form.true)
 
-pub returns-in_default-q : goal.returns-in_default-q
-unfolding read_step
-returns-in_default-q c =
-    simp (form (goal.at.returns-in_default-q c).After-step_form-form _ (c.if-not-form.false), p_told (goal.at.returns-in_default-q c).After-read_field-p _ c.in-Accepted.is, q_told (goal.at.returns-in_default-q c).After-read_field-q _ c.in_default-q.is)
+pub returns-in_err-read_field : goal.returns-in_err-read_field
+returns-in_err-read_field c =
+    let p = err_from_is_err_and c.from_residual.result c.from_residual.ensures.1 in
+    rw (p.1, p.2) (left_refused _ _ _ c.in-Some.ensures (sym c.step_form.ensures ∙ c.if-not-step_form.false) _ c.in_err-read_field.ensures)
+
+pub returns-in_err-read_field-2 : goal.returns-in_err-read_field-2
+returns-in_err-read_field-2 c =
+    let p = err_from_is_err_and c.from_residual-in_err-read_field-2.result c.from_residual-in_err-read_field-2.ensures.1 in
+    rw (p.1, p.2) (right_refused _ _ _ c.in-Some.ensures (sym c.step_form.ensures ∙ c.if-not-step_form.false) _ _ c.in_ok-read_field.ensures c.in_err-read_field-2.ensures)
 
 pub returns : goal.returns
-unfolding read_step
 returns c =
-    simp (form (goal.at.returns c).After-step_form-form _ (c.if-not-form.false), p_told (goal.at.returns c).After-read_field-p _ c.in-Accepted.is, q_told (goal.at.returns c).After-read_field-q _ c.in-Accepted-q.is)
+    step_read _ _ _ c.in-Some.ensures (sym c.step_form.ensures ∙ c.if-not-step_form.false) _ _ c.in_ok-read_field.ensures c.in_ok-read_field-2.ensures

@@ -1,10 +1,9 @@
--- Fields, then filler.
-use mathlib.Core.Path.{sym, ◌∙◌}
-use Rattle.derivations.proofs.Rules.{step_forms}
+use Rattle.std.proofs.Common.{rules}
+use Rattle.derivations.proofs.Rules.{form_is}
 use Rattle.derivations.proofs.step_form.Goals as goal
 
-pub returns-then-not-fields : goal.returns-then-not-fields
-returns-then-not-fields c = simp (step_forms, sym c.fields_form-fields.ensures ∙ c.if-not-fields.true)
+pub returns-then-fields_form : goal.returns-then-fields_form
+returns-then-fields_form c = rw form_is (search rules)
 
-pub returns : goal.returns
-returns c = simp (step_forms, sym c.fields_form-fields.ensures ∙ c.if-not-fields.false) c.filler_form.ensures
+pub returns-else-fields_form : goal.returns-else-fields_form
+returns-else-fields_form c = rw form_is (search rules)

@@ -7,37 +7,64 @@ ghost use Rattle.model.specs.Questions.{acts_for, flows_to};
 ghost use Rattle.model.specs.Extracts.{extract};
 ghost use Rattle.model.specs.ShortForms.{shorten};
 ghost use Rattle.model.specs.Derivations.{check_derivation};
+ghost use Rattle.std.specs.Prelude.{◌<◌, ◌^◌, IfOk};
+ghost use Rattle.model.specs.Answers.{Refused};
+ghost use Rattle.refusals.specs.Numbers.{refusal_number};
+ghost use Rattle.refusals.specs.Results.{written_of};
 ghost use Rattle.questions.specs.Answers.{answer_of};
 ghost use Rattle.derivations.specs.Answers.{checked_of};
 
-use derivations::Checked;
-use extracts::Extracted;
-use questions::Answer;
-use short_forms::ShortForm;
+use derivations::DerivationRefusal;
+use questions::Refuter;
+use refusals::Refusal;
 use words::Side;
 
-// An answer as the one number that it is to C.
-fn answer_number(answer: Answer) -> u32
+// A refusal as the one number that it is to C: kind 2.
+#[tactic(auto, unfolding(model::specs::Answers::number))]
+pub fn refused_number(why: Refusal) -> u32
+    ensures { result ≡ number (Refused (refusal_number why)) }
+{
+    131072 + why.number() as u32
+}
+
+// The answer to a question likewise: yes is kind 0, no kind 1 with the side and the coalition that refutes.
+#[tactic(auto, unfolding(model::specs::Answers::number))]
+pub fn answer_number(answer: Result<Option<Refuter>, Refusal>) -> u32
     ensures { result ≡ number (answer_of answer) }
 {
     match answer {
-        Answer::Yes => 0,
-        Answer::No(side, coalition) => match side {
-            Side::See => 65536 + coalition as u32,
-            Side::Change => 65536 + 4096 + coalition as u32,
+        Ok(None) => 0,
+        Ok(Some(refuter)) => match refuter.side {
+            Side::See => 65536 + refuter.coalition as u32,
+            Side::Change => 65536 + 4096 + refuter.coalition as u32,
         },
-        Answer::Refused(refusal) => 131072 + refusal as u32,
+        Err(why) => refused_number(why),
     }
 }
 
-// The one number that the answer is to C.
-fn checked_number(checked: Checked) -> u32
+// How many bytes were written, likewise.
+#[tactic(auto, unfolding(model::specs::Answers::number))]
+pub fn written_number(written: Result<usize, Refusal>) -> u32
+    requires { IfOk written (λ length. length < 2 ^ 32) }
+    ensures { result ≡ number (written_of written) }
+{
+    match written {
+        Ok(length) => length as u32,
+        Err(why) => refused_number(why),
+    }
+}
+
+// What the check of a derivation gives, likewise.
+#[tactic(auto, unfolding(model::specs::Answers::number))]
+fn checked_number(checked: Result<(), DerivationRefusal>) -> u32
     ensures { result ≡ number (checked_of checked) }
 {
     match checked {
-        Checked::Accepted => 0,
-        Checked::Refused(r) => 131072 + r as u32,
-        Checked::RefusedAt(step, r) => 131072 + (step as u32 * 256 + r as u32),
+        Ok(()) => 0,
+        Err(DerivationRefusal::Call(why)) => refused_number(why),
+        Err(DerivationRefusal::Step(step, why)) => {
+            131072 + (step as u32 * 256 + why.number() as u32)
+        }
     }
 }
 
@@ -56,14 +83,14 @@ pub fn rights_flows_to(ledger: &[u8], p: &[u8], q: &[u8], label: &[u8], day: u32
 }
 
 // Writes the extract of the ledger under the label, on the day.
+#[tactic(auto, unfolding(model::specs::Answers::number))]
 pub fn rights_extract(ledger: &[u8], label: &[u8], day: u32, buffer: &mut [u8]) -> u32
     ensures answered { result ≡ number (extract ledger.now label.now day buffer.old).answer }
     ensures written { buffer.new ≡ (extract ledger.now label.now day buffer.old).buffer }
 {
-    let extracted = extracts::extract(ledger, label, day, buffer);
-    match extracted {
-        Extracted::Written => 0,
-        Extracted::Refused(refusal) => 131072 + refusal as u32,
+    match extracts::extract(ledger, label, day, buffer) {
+        Ok(()) => 0,
+        Err(why) => refused_number(why),
     }
 }
 
@@ -72,11 +99,7 @@ pub fn rights_short_form(n: u64, term: &[u8], buffer: &mut [u8]) -> u32
     ensures answered { result ≡ number (shorten n term.now buffer.old).answer }
     ensures written { buffer.new ≡ (shorten n term.now buffer.old).buffer }
 {
-    let form = short_forms::short_form(n, term, buffer);
-    match form {
-        ShortForm::Written(length) => length as u32,
-        ShortForm::Refused(refusal) => 131072 + refusal as u32,
-    }
+    written_number(short_forms::short_form(n, term, buffer))
 }
 
 // Does every step of the derivation follow by its rule, on the day?

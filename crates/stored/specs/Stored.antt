@@ -1,8 +1,8 @@
 -- How the numbers of a live ledger are stored (document 02, K5). Assumes nothing: these are definitions.
-use Rattle.std.specs.Prelude.{cond, List, ℕ, ◌+◌, ◌^◌, ◌<◌, ltb}
+use Rattle.std.specs.Prelude.{◌≡◌, cond, List, ℕ, ◌+◌, ◌^◌, ◌<◌, ltb}
 use Rattle.model.specs.Sides.{Side, confidentiality, integrity}
 use Rattle.model.specs.Coalitions.{Marks, bit}
-use Rattle.model.specs.Live.{Numbers}
+use Rattle.model.specs.Live.{Numbers, sound_by}
 use Rattle.planes.specs.Digits.{Digits, Raised, Lowered}
 use Rattle.words.specs.declared.Row.{Row}
 use Rattle.stored.specs.declared.Step.{Step}
@@ -46,3 +46,11 @@ after_of Lower f m = f
 -- the stored numbers after a step
 abbrev pub Steps : Step → ℕ → Marks → List ℕ → List ℕ → Type 0
 Steps step n m before after = (f : Numbers) → Stored n before (before_of step f m) → Stored n after (after_of step f m)
+
+-- S are the coalitions whose number is 0, of the numbers that are stored
+pub record SoundStored (planes : List ℕ) (S : Marks) : Type 0 where
+  pub names : ℕ
+  pub numbers : Numbers
+  pub stored : Stored names planes numbers
+  pub small : Small numbers
+  pub is : (s : Side) (c : ℕ) → S s c ≡ sound_by (of_job names numbers) s c

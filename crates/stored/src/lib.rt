@@ -11,9 +11,9 @@ ghost use Rattle.words.specs.FourWords.{RowsAt};
 ghost use Rattle.words.specs.Evaluation.{job_of};
 ghost use Rattle.counting.specs.Counted.{grant_in};
 ghost use Rattle.questions.specs.Searching.{verdict_of, judge_of};
-ghost use Rattle.stored.specs.Stored.{of_job, more, Stored, Small, RowStepped, Steps};
+ghost use Rattle.stored.specs.Stored.{of_job, more, Stored, Small, RowStepped, Steps, SoundStored};
 
-use questions::{Relation, Verdict};
+use questions::{Refuter, Relation, Sieve};
 use words::{Row, Rows};
 
 // Row g of the coalitions of n names that break grant k, on each side.
@@ -99,33 +99,37 @@ pub fn clear(numbers: &mut [u64; 896])
     numbers.fill(0);
 }
 
-// Those of two rows whose numbers are 0: the sound ones. Where there are none to ask of, no number is read.
-fn sound(numbers: &[u64; 896], g: u64, of: Rows) -> Rows
-    requires { g < 16 }
-    ensures { (n : ℕ) (f : Numbers) (m : Marks) → Stored n numbers.now f → Small f → RowsAt m g of → RowsAt (λ s c. m s c && sound_by (of_job n f) s c) g result }
-{
-    if words::none(of) {
-        return of;
-    }
-    let at = g as usize;
-    Rows {
-        see: planes::unbroken(numbers, at, of.see),
-        change: planes::unbroken(numbers, 16 + at, of.change),
+// The numbers as a sieve: sound are the coalitions whose number is 0.
+#[derive(Clone, Copy)]
+struct Zeros<'a> {
+    numbers: &'a [u64; 896],
+}
+
+impl Sieve for Zeros<'_> {
+    ghost keeps = { λ it S. SoundStored it.numbers.now S };
+
+    // Where there are none to ask of, no number is read.
+    fn sift(&mut self, g: u64, of: Rows) -> Rows {
+        if words::none(of) {
+            return of;
+        }
+        let at = g as usize;
+        Rows {
+            see: planes::unbroken(self.numbers, at, of.see),
+            change: planes::unbroken(self.numbers, 16 + at, of.change),
+        }
     }
 }
 
-// The first refuter by the numbers: on the see side, else on the change side, whose first one is kept while the see side is searched to its end.
-pub fn judge(relation: Relation, numbers: &[u64; 896], n: u64, p: &[u8], q: &[u8]) -> Verdict
+// The first refuter by the numbers: on the see side, else on the change side.
+pub fn judge(
+    relation: Relation,
+    numbers: &[u64; 896],
+    n: u64,
+    p: &[u8],
+    q: &[u8],
+) -> Option<Refuter>
     ensures { (f : Numbers) → Stored n numbers.now f → Small f → verdict_of result ≡ judge_of relation (job_of n) (sound_by f) (term_in p.now) (term_in q.now) }
 {
-    let mut found = Verdict::Holds;
-    for g in 0..words::row_count(n) {
-        let left = questions::still(found, questions::opposed(relation, n, p, q, g));
-        let against = sound(numbers, g, left);
-        found = questions::further(found, g, against);
-        if !words::empty(against.see) {
-            return found;
-        }
-    }
-    found
+    questions::first_refuter(relation, n, p, q, &mut Zeros { numbers })
 }

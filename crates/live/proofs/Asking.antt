@@ -13,7 +13,8 @@ use Rattle.words.specs.Evaluation.{job_of}
 use Rattle.words.proofs.AnyBytes.{term_in_lem}
 use Rattle.questions.specs.declared.Relation.{Relation}
 use Rattle.questions.specs.declared.Relation.TheVariants.{ActsFor, FlowsTo}
-use Rattle.questions.specs.declared.Verdict.{Verdict}
+use Rattle.std.specs.Prelude.{Option}
+use Rattle.questions.specs.declared.Refuter.{Refuter}
 use Rattle.questions.specs.Searching.{verdict_of, judge_of}
 use Rattle.live.specs.declared.Live.{Live}
 use Rattle.live.specs.Held.{live_of, Holds}
@@ -29,7 +30,7 @@ module _ (live : Live) (ledger planes : List ℕ) (x : model_live.Live) (h : Hol
     unfolding ask_live
     ask_q answer r e = rw (← h.names, p_read, e)
 
-    pub ask_answer : (relation : Relation) (v : Verdict) (tq : Term) → read_term live.names q ≡ accepted tq
+    pub ask_answer : (relation : Relation) (v : Option Refuter) (tq : Term) → read_term live.names q ≡ accepted tq
         → verdict_of v ≡ judge_of relation (job_of live.names) (sound_by x.numbers) (term_in p) (term_in q) → answer_to (verdict_of v) ≡ ask_live (live_of relation) x p q
     unfolding ask_live acts_for_live flows_to_live
     ask_answer relation v tq q_read e =

@@ -1,12 +1,13 @@
 -- Adding and withdrawing: what is held afterwards. Assumes nothing.
 use mathlib.Core.Path.{◌≡◌, refl, sym, ap, ap₂, ◌∙◌, subst}
+use Rattle.std.specs.Prelude.{Ok, Err}
 use mathlib.Core.List.{List, [], ◌∷◌, ◌++◌}
 use Prim.Native.Nat.{ℕ, suc, ◌+◌, ◌-◌, ◌*◌, ◌≤◌, ◌<◌}
 use native.Mathlib.Omega.{arith}
 use lib.ListN.{length, take, drop, get_or, length-append, length-take, length-drop}
 use borrow.Author.Tests.{lt-ltb}
 use Rattle.model.specs.Bytes.{field}
-use Rattle.model.specs.Readings.{Reading, accepted, refused}
+use Rattle.model.specs.Readings.{accepted, refused}
 use Rattle.model.specs.Grants.{Grant, Under, under}
 use Rattle.model.specs.Ledgers.{read_block, ledger_of}
 use Rattle.model.specs.Answers as model
@@ -18,37 +19,18 @@ use Rattle.words.specs.AnyBytes.{term_in}
 use Rattle.words.specs.Evaluation.{job_of}
 use Rattle.words.proofs.AnyBytes.{term_in_lem}
 use Rattle.words.proofs.Names.{job_is}
-use Rattle.ledgers.specs.declared.GrantReading.{GrantReading}
-use Rattle.ledgers.specs.declared.GrantReading.TheVariants.{Accepted, Refused as RefusedBlock}
-use Rattle.ledgers.specs.Readings.{grant_reading, grant_refusal}
+use Rattle.refusals.specs.declared.Refusal.{Refusal}
+use Rattle.refusals.specs.declared.Refusal.TheVariants.{Full, NoGrant}
+use Rattle.refusals.specs.Numbers.{refusal_number}
+use Rattle.refusals.specs.Results.{done}
+use Rattle.refusals.proofs.Results.{done_refused}
 use Rattle.counting.specs.Counted.{grant_in}
 use Rattle.counting.proofs.Standing.{no_grant, grant_in_lem}
 use Rattle.blocks.specs.Front.{end_of, Kept, Rewritten}
 use Rattle.stored.specs.Stored.{more, Stored, Small}
 use Rattle.stored.proofs.Storing.{stored_cong}
 use Rattle.live.specs.declared.Live.{Live}
-use Rattle.live.specs.declared.Reply.TheVariants.{Done, Refused}
 use Rattle.live.specs.Held.{Holds, Stepped}
-
--- ---- what the reader's answer says of a block
-
-pub record AcceptedBlock (n : ℕ) (block : List ℕ) : Type 0 where
-  pub grant : Grant
-  pub is : read_block n block ≡ accepted grant
-
-pub accepted_block : (n : ℕ) (block : List ℕ) (s : GrantReading) → s ≡ grant_reading (read_block n block) → s ≡ Accepted → AcceptedBlock n block
-accepted_block n block s a b = by (read_block n block) refl (sym a ∙ b)
-  where
-    by : (r : Reading Grant) → read_block n block ≡ r → grant_reading r ≡ Accepted → AcceptedBlock n block
-    by (accepted g) e h = record { grant = g; is = e }
-    by (refused k) e h = absurd (let z : ◌≡◌ {A = ℕ} 0 1 = cc in omega arith)
-
-pub refused_block : (n : ℕ) (block : List ℕ) (s : GrantReading) (k r : ℕ) → s ≡ grant_reading (read_block n block) → s ≡ RefusedBlock k → r ≡ grant_refusal s → read_block n block ≡ refused r
-refused_block n block s k r a b c = by (read_block n block) (sym a ∙ b) ∙ ap refused (sym (c ∙ ap grant_refusal b))
-  where
-    by : (r : Reading Grant) → grant_reading r ≡ RefusedBlock k → r ≡ refused k
-    by (accepted g) h = cc
-    by (refused m) h = cc
 
 -- ---- what is held
 
@@ -77,23 +59,25 @@ pub part_is : (u v : Under) (d g : Grant) → u ≡ v → d ≡ g → breaks_cou
 part_is u v d g e f = ap₂ breaks_counting e f
 
 -- a call that is refused
-refused_step : (call : Call) (live : Live) (ledger planes : List ℕ) (x : model_live.Live) (r : ℕ) → Holds live ledger planes x
-    → step call x ≡ record { next = x; reply = model.Refused r } → Stepped call x ledger (record { live = live; reply = Refused r }) ledger planes
-refused_step call live ledger planes x r h e = record {
-  reply_is = sym (ap (λ (s : Step). s.reply) e);
-  next_held = subst (Holds live ledger planes) (sym (ap (λ (s : Step). s.next) e)) h;
-  later = refl;
-}
-
--- and one that is done
-done_step : (call : Call) (live : Live) (ledger ledger' planes : List ℕ) (x y : model_live.Live) → step call x ≡ record { next = y; reply = model.Yes }
-    → Holds live ledger' planes y → drop (end_of y.blocks) ledger' ≡ drop (end_of y.blocks) ledger → Stepped call x ledger (record { live = live; reply = Done }) ledger' planes
-done_step call live ledger ledger' planes x y e h later =
-    let next : y ≡ (step call x).next = sym (ap (λ (s : Step). s.next) e) in
+refused_step : (call : Call) (live : Live) (ledger planes : List ℕ) (x : model_live.Live) (why : Refusal) → Holds live ledger planes x
+    → step call x ≡ record { next = x; reply = model.Refused (refusal_number why) } → Stepped call x live ledger (Err why) ledger planes
+refused_step call live ledger planes x why h e =
+    let next : x ≡ (step call x).next = sym (ap (λ (s : Step). s.next) e) in
     record {
       reply_is = sym (ap (λ (s : Step). s.reply) e);
-      next_held = subst (Holds live ledger' planes) next h;
-      later = subst (λ (z : model_live.Live). drop (end_of z.blocks) ledger' ≡ drop (end_of z.blocks) ledger) next later;
+      next_held = subst (Holds live ledger planes) next h;
+      later = refl;
+    }
+
+-- and one that is done
+done_step : (call : Call) (live next : Live) (ledger ledger' planes : List ℕ) (x y : model_live.Live) → step call x ≡ record { next = y; reply = model.Yes }
+    → Holds next ledger' planes y → drop (end_of y.blocks) ledger' ≡ drop (end_of y.blocks) ledger → Stepped call x live ledger (Ok next) ledger' planes
+done_step call live next ledger ledger' planes x y e h later =
+    let stepped : y ≡ (step call x).next = sym (ap (λ (s : Step). s.next) e) in
+    record {
+      reply_is = sym (ap (λ (s : Step). s.reply) e);
+      next_held = subst (Holds next ledger' planes) stepped h;
+      later = subst (λ (z : model_live.Live). drop (end_of z.blocks) ledger' ≡ drop (end_of z.blocks) ledger) stepped later;
     }
 
 -- ---- adding
@@ -103,17 +87,19 @@ last_grant [] g d = refl
 last_grant (h ∷ gs) g d = last_grant gs g d
 
 module _ (live : Live) (ledger planes block : List ℕ) (x : model_live.Live) (h : Holds live ledger planes x) where
-  pub add_refused : (r : ℕ) → read_block live.names block ≡ refused r → Stepped (add block) x ledger (record { live = live; reply = Refused r }) ledger planes
+  pub add_refused : (why : Refusal) → refused (refusal_number why) ≡ done (read_block live.names block) → Stepped (add block) x live ledger (Err why) ledger planes
   unfolding step
-  add_refused r e = refused_step (add block) live ledger planes x r h (ap (altered x) ((add_refused_exactly x block r).1 (bad_block r (rw (← h.names) e))))
+  add_refused why e =
+      let read : read_block x.asked.names block ≡ refused (refusal_number why) = rw (← h.names) (done_refused (read_block live.names block) _ e) in
+      refused_step (add block) live ledger planes x why h (ap (altered x) ((add_refused_exactly x block _).1 (bad_block _ read)))
 
   module _ (g : Grant) (read : read_block live.names block ≡ accepted g) where
     abbrev own : read_block x.asked.names block ≡ accepted g
     own = rw (← h.names) read
 
-    pub add_full : 64 ≤ live.held → Stepped (add block) x ledger (record { live = live; reply = Refused 87 }) ledger planes
+    pub add_full : 64 ≤ live.held → Stepped (add block) x live ledger (Err Full) ledger planes
     unfolding step
-    add_full full = refused_step (add block) live ledger planes x 87 h (ap (altered x) ((add_refused_exactly x block 87).1 (no_room g own (omega (arith, h.held)))))
+    add_full full = refused_step (add block) live ledger planes x Full h (ap (altered x) ((add_refused_exactly x block 87).1 (no_room g own (omega (arith, h.held)))))
 
     module _ (room : live.held < 64) where
       can : added x block ≡ accepted (grown x block g)
@@ -136,9 +122,9 @@ module _ (live : Live) (ledger planes block : List ℕ) (x : model_live.Live) (h
             ∙ ap (λ (k : ℕ). get_or (x.grants ++ g ∷ []) k no_grant) at ∙ last_grant x.grants g no_grant
 
         pub add_done : (planes' : List ℕ) → Stored live.names planes' (more x.numbers (breaks_counting x.asked g))
-            → Stepped (add block) x ledger (record { live = record { names = live.names; day = live.day; held = live.held + 1; codes = live.codes; label = live.label }; reply = Done }) ledger' planes'
+            → Stepped (add block) x live ledger (Ok (record { names = live.names; day = live.day; held = live.held + 1; codes = live.codes; label = live.label })) ledger' planes'
         unfolding step
-        add_done planes' rows = done_step (add block) _ ledger ledger' planes' x (grown x block g) (ap (altered x) can) (record {
+        add_done planes' rows = done_step (add block) live _ ledger ledger' planes' x (grown x block g) (ap (altered x) can) (record {
           names = h.names;
           day = h.day;
           held = omega (arith, h.held, length-append x.blocks (block ∷ []));
@@ -154,9 +140,9 @@ module _ (live : Live) (ledger planes : List ℕ) (k : ℕ) (x : model_live.Live
   count : live.held ≡ length x.grants
   count = h.held ∙ holding_length h.good.blocks_read
 
-  pub withdraw_none : live.held ≤ k → Stepped (withdraw k) x ledger (record { live = live; reply = Refused 88 }) ledger planes
+  pub withdraw_none : live.held ≤ k → Stepped (withdraw k) x live ledger (Err NoGrant) ledger planes
   unfolding step
-  withdraw_none past = refused_step (withdraw k) live ledger planes x 88 h (ap (altered x) ((withdraw_refused_exactly x k 88).1 (refl, omega (arith, count))))
+  withdraw_none past = refused_step (withdraw k) live ledger planes x NoGrant h (ap (altered x) ((withdraw_refused_exactly x k 88).1 (refl, omega (arith, count))))
 
   -- no live ledger holds more than 64
   pub held_few : live.held ≤ 64
@@ -181,9 +167,9 @@ module _ (live : Live) (ledger planes : List ℕ) (k : ℕ) (x : model_live.Live
     gone_part = stored_cong live.names planes x.numbers _ (λ s c. omega (arith, h.good.true_numbers s c, afresh-without x.asked s c x.grants k g is)) (stored_live live ledger planes x h)
 
     pub withdraw_done : (ledger' planes' : List ℕ) → k < live.held → Rewritten ledger live.names (dropped_at k x.blocks) ledger' → Stored live.names planes' (shrunk x k g).numbers
-        → Stepped (withdraw k) x ledger (record { live = record { names = live.names; day = live.day; held = live.held - 1; codes = live.codes; label = live.label }; reply = Done }) ledger' planes'
+        → Stepped (withdraw k) x live ledger (Ok (record { names = live.names; day = live.day; held = live.held - 1; codes = live.codes; label = live.label })) ledger' planes'
     unfolding step
-    withdraw_done ledger' planes' below new rows = done_step (withdraw k) _ ledger ledger' planes' x (shrunk x k g) (ap (altered x) can_go) (record {
+    withdraw_done ledger' planes' below new rows = done_step (withdraw k) live _ ledger ledger' planes' x (shrunk x k g) (ap (altered x) can_go) (record {
       names = h.names;
       day = h.day;
       held = omega (arith, h.held, length-append (take k x.blocks) (drop (suc k) x.blocks), length-take k x.blocks, length-drop (suc k) x.blocks);

@@ -1,5 +1,5 @@
 -- How a live ledger is held, in its head, its bytes and its numbers, and what a call does to them (document 02, K5). Assumes nothing: these are definitions.
-use Rattle.std.specs.Prelude.{◌≡◌, List, [], ℕ, length, take, drop}
+use Rattle.std.specs.Prelude.{◌≡◌, List, [], ℕ, Result, Ok, Err, length, take, drop}
 use Rattle.model.specs.Readings.{accepted, refused}
 use Rattle.model.specs.Terms.{Term}
 use Rattle.model.specs.Answers as model
@@ -10,9 +10,8 @@ use Rattle.questions.specs.declared.Relation.TheVariants.{ActsFor, FlowsTo}
 use Rattle.blocks.specs.Front.{end_of, Kept}
 use Rattle.stored.specs.Stored.{Stored}
 use Rattle.live.specs.declared.Live.{Live}
-use Rattle.live.specs.declared.Changed.{Changed}
-use Rattle.live.specs.declared.Reply.{Reply}
-use Rattle.live.specs.declared.Reply.TheVariants.{Done, Refused}
+use Rattle.refusals.specs.declared.Refusal.{Refusal}
+use Rattle.refusals.specs.Numbers.{refusal_number}
 
 -- what the question answers
 abbrev pub live_of : Relation → model_live.Live → Term → Term → model.Answer
@@ -30,23 +29,27 @@ pub record Holds (live : Live) (ledger planes : List ℕ) (x : model_live.Live) 
   pub numbers : Stored x.asked.names planes x.numbers
 
 -- done, or the refusal's number
-abbrev pub reply_of : Reply → model.Answer
-reply_of Done = model.Yes
-reply_of (Refused r) = model.Refused r
+abbrev pub reply_of : Result Live Refusal → model.Answer
+reply_of (Ok next) = model.Yes
+reply_of (Err why) = model.Refused (refusal_number why)
+
+-- the head afterwards: where the call is refused it stays as it was
+abbrev pub head_after : Live → Result Live Refusal → Live
+head_after live (Ok next) = next
+head_after live (Err why) = live
 
 -- The reply is the step's; what is held afterwards is what the step leads to; bytes behind its written ledger are as they were.
-pub record Stepped (call : Call) (x : model_live.Live) (before : List ℕ) (changed : Changed) (ledger planes : List ℕ) : Type 0 where
-  pub reply_is : reply_of changed.reply ≡ (step call x).reply
-  pub next_held : Holds changed.live ledger planes (step call x).next
+pub record Stepped (call : Call) (x : model_live.Live) (live : Live) (before : List ℕ) (result : Result Live Refusal) (ledger planes : List ℕ) : Type 0 where
+  pub reply_is : reply_of result ≡ (step call x).reply
+  pub next_held : Holds (head_after live result) ledger planes (step call x).next
   pub later : drop (end_of (step call x).next.blocks) ledger ≡ drop (end_of (step call x).next.blocks) before
 
--- Head, bytes and numbers are as they were.
-pub record Unaltered (live : Live) (ledger planes : List ℕ) (live' : Live) (ledger' planes' : List ℕ) : Type 0 where
-  pub same_live : live' ≡ live
+-- Bytes and numbers are as they were.
+pub record Unaltered (ledger planes ledger' planes' : List ℕ) : Type 0 where
   pub same_ledger : ledger' ≡ ledger
   pub same_planes : planes' ≡ planes
 
 -- What making a live ledger gives: one that is held, the bytes behind its block 0 being as they were; or the refusal.
-pub record Made (n : ℕ) (label : List ℕ) (day : ℕ) (before : List ℕ) (changed : Changed) (ledger planes : List ℕ) : Type 0 where
-  pub made : (x : model_live.Live) → make n label day ≡ accepted x → (changed.reply ≡ Done) × Holds changed.live ledger planes x × (drop (end_of []) ledger ≡ drop (end_of []) before)
-  pub not_made : (r : ℕ) → make n label day ≡ refused r → changed.reply ≡ Refused r
+pub record Made (n : ℕ) (label : List ℕ) (day : ℕ) (before : List ℕ) (result : Result Live Refusal) (ledger planes : List ℕ) : Type 0 where
+  pub made : (x : model_live.Live) → make n label day ≡ accepted x → (live : Live) × (result ≡ Ok live) × Holds live ledger planes x × (drop (end_of []) ledger ≡ drop (end_of []) before)
+  pub not_made : (r : ℕ) → make n label day ≡ refused r → reply_of result ≡ model.Refused r

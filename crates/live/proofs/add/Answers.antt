@@ -1,36 +1,41 @@
 use mathlib.Core.Path.{◌≡◌, subst}
 use Prim.Native.Nat.{◌<◌}
 use native.Mathlib.Omega.{arith}
+use Rattle.std.proofs.lemmas.Result.{err_from_is_err_and}
 use Rattle.model.specs.Coalitions.{Marks}
 use Rattle.model.specs.Grants.{under}
+use Rattle.model.specs.Ledgers.{read_block}
 use Rattle.model.specs.Live.{breaks_counting}
 use Rattle.model.proofs.Live.{block_read}
+use Rattle.refusals.proofs.Results.{Accepted, done_accepted}
 use Rattle.words.specs.AnyBytes.{term_in}
 use Rattle.words.specs.Evaluation.{job_of}
 use Rattle.counting.specs.Counted.{grant_in}
 use Rattle.stored.specs.Stored.{more, Stored}
-use Rattle.live.proofs.Stepping.{part_is, AcceptedBlock, accepted_block, refused_block, kept_live, stored_live, asked_live, add_refused, add_full, new_grant, add_done}
+use Rattle.live.proofs.Stepping.{part_is, kept_live, stored_live, asked_live, add_refused, add_full, new_grant, add_done}
 use Rattle.live.proofs.add.Goals as goal
-use Rattle.live.proofs.add.Goals.{In-Accepted}
+use Rattle.live.proofs.add.Goals.{In_ok-read_block}
 
 -- the grant of the block, where it was accepted
-new : (c : In-Accepted) → let a = c.args in AcceptedBlock a.live.names a.block.now
-new c = accepted_block _ _ _ c.read_block-read.ensures c.in-Accepted.is
+new : (c : In_ok-read_block) → let a = c.args in Accepted (read_block a.live.names a.block.now)
+new c = done_accepted _ c.in_ok-read_block.ensures
 
-pub returns-in_default-clause-stepped : goal.returns-in_default-clause-stepped
-returns-in_default-clause-stepped c = λ x h. add_refused _ _ _ _ x h _ (refused_block _ _ _ _ _ c.read_block-read.ensures c.in_default.is c.grant_refusal-refusal.ensures)
+pub returns-in_err-read_block-clause-stepped : goal.returns-in_err-read_block-clause-stepped
+returns-in_err-read_block-clause-stepped c x h =
+    let p = err_from_is_err_and c.from_residual.result c.from_residual.ensures.1 in
+    rw (p.1, p.2) (add_refused _ _ _ _ x h _ c.in_err-read_block.ensures)
 
-pub returns-then-held-ge64-clause-stepped : goal.returns-then-held-ge64-clause-stepped
-returns-then-held-ge64-clause-stepped c = λ x h.
-    let g = new (goal.at.returns-then-held-ge64-clause-stepped c).In-Accepted in
-    add_full _ _ _ _ x h g.grant g.is (omega (arith, c.if-held-ge64.true))
+pub returns-then-live-ge64-clause-stepped : goal.returns-then-live-ge64-clause-stepped
+returns-then-live-ge64-clause-stepped c x h =
+    let g = new (goal.at.returns-then-live-ge64-clause-stepped c).In_ok-read_block in
+    add_full _ _ _ _ x h g.value g.is (omega (arith, c.if-live-ge64.true))
 
 pub returns-clause-stepped : goal.returns-clause-stepped
-returns-clause-stepped c = λ x h.
+returns-clause-stepped c x h =
     let a = c.args in
-    let g = new (goal.at.returns-clause-stepped c).In-Accepted in
-    let room : a.live.held < 64 = omega (arith, c.if-held-ge64.false) in
-    let rewritten = c.append.ensures x.blocks (kept_live _ _ _ x h) h.held room (block_read _ _ g.grant g.is).size in
-    let part' : breaks_counting (under (job_of a.live.names) (term_in c.part.result.now) a.live.day) (grant_in c.part-written.result.now a.live.held) ≡ breaks_counting x.asked g.grant =
-    part_is _ _ _ _ (asked_live _ _ _ x h _ c.part.ensures) (new_grant _ _ _ _ x h g.grant g.is room _ rewritten _ c.part-written.ensures) in
-    add_done _ _ _ _ x h g.grant g.is room _ rewritten _ (subst (λ (m : Marks). Stored a.live.names c.count_in.new.numbers (more x.numbers m)) part' (c.count_in.ensures x.numbers (stored_live _ _ _ x h)))
+    let g = new (goal.at.returns-clause-stepped c).In_ok-read_block in
+    let room : a.live.held < 64 = omega (arith, c.if-live-ge64.false) in
+    let rewritten = c.append.ensures x.blocks (kept_live _ _ _ x h) h.held room (block_read _ _ g.value g.is).size in
+    let part' : breaks_counting (under (job_of a.live.names) (term_in c.label.result.now) a.live.day) (grant_in c.part-written.result.now a.live.held) ≡ breaks_counting x.asked g.value =
+    part_is _ _ _ _ (asked_live _ _ _ x h _ c.label.ensures) (new_grant _ _ _ _ x h g.value g.is room _ rewritten _ c.part-written.ensures) in
+    add_done _ _ _ _ x h g.value g.is room _ rewritten _ (subst (λ (m : Marks). Stored a.live.names c.count_in.new.numbers (more x.numbers m)) part' (c.count_in.ensures x.numbers (stored_live _ _ _ x h)))

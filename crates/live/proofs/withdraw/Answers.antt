@@ -1,5 +1,5 @@
 use mathlib.Core.Path.{◌≡◌, sym, subst}
-use Prim.Native.Nat.{◌<◌}
+use Prim.Native.Nat.{◌<◌, ◌≤◌}
 use native.Mathlib.Omega.{arith}
 use Rattle.model.specs.Coalitions.{Marks}
 use Rattle.model.specs.Grants.{under}
@@ -9,20 +9,24 @@ use Rattle.words.specs.AnyBytes.{term_in}
 use Rattle.words.specs.Evaluation.{job_of}
 use Rattle.counting.specs.Counted.{grant_in}
 use Rattle.stored.specs.Stored.{more, Stored}
-use Rattle.live.proofs.Stepping.{part_is, kept_live, asked_live, withdraw_none, gone_grant, gone_part, withdraw_done}
+use Rattle.live.proofs.Stepping.{part_is, kept_live, asked_live, withdraw_none, held_few, gone_grant, gone_part, withdraw_done}
 use Rattle.live.proofs.withdraw.Goals as goal
+use Rattle.live.proofs.withdraw.Goals.{then-live-k-via-then-live-k, then-live-k-via-else-live-k+then-live-gt64}
 
-pub returns-then-held-k-clause-stepped : goal.returns-then-held-k-clause-stepped
-returns-then-held-k-clause-stepped c = λ x h. withdraw_none _ _ _ _ x h (omega (arith, c.if-held-k.true))
+pub returns-then-live-k-clause-stepped : goal.returns-then-live-k-clause-stepped
+returns-then-live-k-clause-stepped c x h =
+    let few = held_few _ _ _ c.args.k x h in
+    let past : c.args.live.held ≤ c.args.k = elim c.then-live-k.branch [ then-live-k-via-then-live-k w ↦ omega (arith, w.if-live-k.true) | then-live-k-via-else-live-k+then-live-gt64 w ↦ absurd (omega (arith, w.if-live-gt64.true, few)) ] in
+    withdraw_none _ _ _ _ x h past
 
 pub returns-clause-stepped : goal.returns-clause-stepped
-returns-clause-stepped c = λ x h.
+returns-clause-stepped c x h =
     let a = c.args in
-    let below : a.k < a.live.held = omega (arith, c.if-held-k.false) in
+    let below : a.k < a.live.held = omega (arith, c.if-live-k.false) in
     let t = grant_there x.grants a.k (omega (arith, h.held, holding_length h.good.blocks_read)) in
     let g = t.grant in
-    let part' : breaks_counting (under (job_of a.live.names) (term_in c.part.result.now) a.live.day) (grant_in c.part-written.result.now a.k) ≡ breaks_counting x.asked g =
-    part_is _ _ _ _ (asked_live _ _ _ x h _ c.part.ensures) (gone_grant _ _ _ a.k x h g t.is _ below c.part-written.ensures) in
+    let part' : breaks_counting (under (job_of a.live.names) (term_in c.label.result.now) a.live.day) (grant_in c.part-written.result.now a.k) ≡ breaks_counting x.asked g =
+    part_is _ _ _ _ (asked_live _ _ _ x h _ c.label.ensures) (gone_grant _ _ _ a.k x h g t.is _ below c.part-written.ensures) in
     let f = (shrunk x a.k g).numbers in
     withdraw_done _ _ _ a.k x h g t.is _ _ below (c.remove.ensures x.blocks (kept_live _ _ _ x h) h.held below)
     (c.count_out.ensures f (subst (λ (m : Marks). Stored a.live.names a.numbers.now (more f m)) (sym part') (gone_part _ _ _ a.k x h g t.is)))

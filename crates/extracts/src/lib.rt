@@ -35,7 +35,8 @@ fn mark_sound(ledger: &[u8], n: u64, grants: usize, chosen: u64, see: &mut [u8],
     requires { (see.old ≡ blank 512) × (change.old ≡ blank 512) }
     ensures { Halves n (sound_in ledger.now grants chosen) see.new change.new }
 {
-    for g in 0..words::row_count(n) {
+    let rows = words::row_count(n);
+    for g in 0..rows {
         let sound = soundness::sound_row(ledger, n, grants, chosen, g);
         put_row(see, g, sound.see);
         put_row(change, g, sound.change);

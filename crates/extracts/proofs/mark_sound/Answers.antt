@@ -16,7 +16,7 @@ loop-g-init c =
 
 -- there are 16 rows at most
 few : (c : In-loop-g) → c.loop-g.g < 16
-few c = omega (arith, c.row_count-g-end.ensures, rows_few c.args.n)
+few c = omega (arith, c.row_count-rows.ensures, rows_few c.args.n)
 
 pub put_row-requires : goal.put_row-requires
 put_row-requires c =
@@ -45,4 +45,4 @@ loop-g-preserved c =
 pub returns : goal.returns
 returns c =
     let l = c.loop-g in
-    filled_end c.args.n _ l.g l.see l.change (omega (arith, c.row_count-g-end.ensures)) l.invariant.1
+    filled_end c.args.n _ l.g l.see l.change (omega (arith, c.row_count-rows.ensures)) l.invariant.1

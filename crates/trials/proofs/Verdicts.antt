@@ -2,10 +2,10 @@
 use mathlib.Core.Path.{◌≡◌, refl, ap, ◌∙◌}
 use mathlib.Core.Bool.{true, false}
 use mathlib.Core.List.{List}
-use Prim.Native.Nat.{ℕ, zero, suc, ◌+◌, ◌≤◌}
+use Prim.Native.Nat.{ℕ, zero, suc, ◌≤◌}
 use native.Mathlib.Omega.{arith}
 use Rattle.model.specs.Sides.{Side, integrity}
-use Rattle.model.specs.Readings.{accepted, refused}
+use Rattle.model.specs.Readings.{Reading, accepted, refused}
 use Rattle.model.specs.Dates.{real_date}
 use Rattle.model.specs.Ledgers.{read_book}
 use Rattle.model.specs.Testing as model
@@ -16,37 +16,27 @@ use Rattle.soundness.specs.declared.Tested.{Tested}
 use Rattle.soundness.specs.Testing.{tested_of, test_in}
 use Rattle.soundness.proofs.Accepted.{test-counted}
 use Rattle.soundness.proofs.Testing.{tested_few}
-use Rattle.trials.specs.Figures.{test_on, side_numbered, test_number}
+use Rattle.trials.specs.Figures.{test_on, side_numbered}
 
 pub other_side : (side : ℕ) → (side ≡ 0 → ⊥) → integrity ≡ side_numbered side
 other_side zero h = absurd (h refl)
 other_side (suc k) h = refl
 
--- sound, and broken
-module _ (t : Tested) where
-  pub sound-number : t.sound ≡ true → t.tested ≡ test_number (accepted (tested_of t))
-  sound-number e = rw e (omega arith)
-
-  pub broken_number : t.sound ≡ false → 65536 + t.tested ≡ test_number (accepted (tested_of t))
-  broken_number e = rw e (omega arith)
-
 module _ (ledger label : List ℕ) (day : ℕ) (s : Side) (c : ℕ) where
-  pub day_refused : real_date day ≡ false → 131072 + 86 ≡ test_number (test_on ledger label day s c)
+  pub day_refused : real_date day ≡ false → ◌≡◌ {A = Reading model.Tested} (refused 86) (test_on ledger label day s c)
   unfolding test_on
   day_refused e = rw e
 
   module _ (real : real_date day ≡ true) where
-    pub book_refused : (r : ℕ) → read_book ledger label day ≡ refused r → 131072 + r ≡ test_number (test_on ledger label day s c)
+    pub book_refused : (r : ℕ) → read_book ledger label day ≡ refused r → ◌≡◌ {A = Reading model.Tested} (refused r) (test_on ledger label day s c)
     unfolding test_on
-    book_refused r e = rw (real, e) (omega arith)
+    book_refused r e = rw (real, e)
 
     -- nothing is refused
     module _ (n grants counted : ℕ) (b : AcceptedBook ledger label n grants) (t : Tested) (is : counted ≡ counted_in ledger n grants label day) (e : tested_of t ≡ test_in ledger grants counted s c) where
-      pub test-numbered : (r : ℕ) → r ≡ test_number (accepted (tested_of t)) → r ≡ test_number (test_on ledger label day s c)
+      pub tested_on : accepted (tested_of t) ≡ test_on ledger label day s c
       unfolding test_on
-      test-numbered r q =
-          rw (real, b.is day)
-          (q ∙ ap (λ (x : model.Tested). test_number (accepted x)) (e ∙ test-counted ledger label day n grants counted b.book b.L b.of b.label_is is s c))
+      tested_on = rw (real, b.is day) (ap accepted (e ∙ test-counted ledger label day n grants counted b.book b.L b.of b.label_is is s c))
 
       -- a ledger has at most 64 grants
       pub tested_fits : t.tested ≤ 64

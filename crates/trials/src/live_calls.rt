@@ -1,64 +1,46 @@
 // The calls of a live ledger (document 02, K5), whose head C keeps as four numbers (names, day, grants held, codes of the label) and a text, the label.
+// Kept: C lends the four buffers of a live ledger one by one.
 ghost use Rattle.std.specs.Prelude.{◌≡◌, List, ℕ, ◌+◌, drop};
 ghost use Rattle.model.specs.Readings.{accepted, refused};
 ghost use Rattle.model.specs.Answers.{number};
 ghost use Rattle.model.specs.Live as model;
 ghost use Rattle.model.specs.Live.{make, add, withdraw, ask_acts_for, ask_flows_to, step};
-ghost use Rattle.questions.specs.Answers.{answer_of};
 ghost use Rattle.live.specs.Held.{Holds};
 ghost use Rattle.trials.specs.Heads.{head_of, Replied, LentStepped, LentUnaltered};
 
-use live::{Changed, Live, Reply};
-use questions::Answer;
-use words::Side;
+use live::Live;
+use refusals::Refusal;
 
 // The head that C keeps.
 fn head_of(head: &[u64; 4], text: &[u8; 64]) -> Live
     ensures { result ≡ head_of head.now text.now }
 {
-    let label = *text;
     Live {
         names: (head[0] % 256) as u8,
         day: (head[1] % 4294967296) as u32,
         held: head[2] as usize,
         codes: head[3] as usize,
-        label: label,
+        label: *text,
     }
 }
 
 // The reply's number; where the call was done, C keeps the new head.
-fn replied(head: &mut [u64; 4], text: &mut [u8; 64], changed: Changed) -> u32
-    ensures { Replied head.old text.old changed result head.new text.new }
+fn replied(head: &mut [u64; 4], text: &mut [u8; 64], reply: Result<Live, Refusal>) -> u32
+    ensures { Replied head.old text.old reply result head.new text.new }
 {
-    let reply = changed.reply;
     match reply {
-        Reply::Done => {
-            // A part of a lent array tells its length.
-            let all: &[u64] = &head[..];
-            let live = changed.live;
+        Ok(live) => {
+            *head = [
+                live.names as u64,
+                live.day as u64,
+                live.held as u64,
+                live.codes as u64,
+            ];
             let label = live.label;
-            head[0] = live.names as u64;
-            head[1] = live.day as u64;
-            head[2] = live.held as u64;
-            head[3] = live.codes as u64;
             *text = label;
             0
         }
-        Reply::Refused(refusal) => 131072 + refusal as u32,
-    }
-}
-
-// The one number that the answer is.
-fn answer_number(answer: Answer) -> u32
-    ensures { result ≡ number (answer_of answer) }
-{
-    match answer {
-        Answer::Yes => 0,
-        Answer::No(side, coalition) => match side {
-            Side::See => 65536 + coalition as u32,
-            Side::Change => 65536 + 4096 + coalition as u32,
-        },
-        Answer::Refused(refusal) => 131072 + refusal as u32,
+        Err(why) => rights::refused_number(why),
     }
 }
 
@@ -75,8 +57,7 @@ pub fn trials_live_make(
     ensures made { (x : model.Live) → make n label.now day ≡ accepted x → (result ≡ 0) × Holds (head_of head.new text.new) ledger.new numbers.new x × (drop 512 ledger.new ≡ drop 512 ledger.old) }
     ensures refused { (k : ℕ) → make n label.now day ≡ refused k → (result ≡ 131072 + k) × LentUnaltered head.old text.old ledger.old numbers.old head.new text.new ledger.new numbers.new }
 {
-    let changed = live::make(n, label, day, ledger, numbers);
-    replied(head, text, changed)
+    replied(head, text, live::make(n, label, day, ledger, numbers))
 }
 
 // Adds the grant of a block.
@@ -90,8 +71,8 @@ pub fn trials_live_add(
     ensures stepped { (x : model.Live) → Holds (head_of head.old text.old) ledger.old numbers.old x → LentStepped (add block.now) x ledger.old result head.new text.new ledger.new numbers.new }
     ensures refused { (j : ℕ) → result ≡ 131072 + j → LentUnaltered head.old text.old ledger.old numbers.old head.new text.new ledger.new numbers.new }
 {
-    let changed = live::add(head_of(head, text), ledger, numbers, block);
-    replied(head, text, changed)
+    let reply = live::add(head_of(head, text), ledger, numbers, block);
+    replied(head, text, reply)
 }
 
 // Withdraws grant k.
@@ -105,8 +86,8 @@ pub fn trials_live_withdraw(
     ensures stepped { (x : model.Live) → Holds (head_of head.old text.old) ledger.old numbers.old x → LentStepped (withdraw k) x ledger.old result head.new text.new ledger.new numbers.new }
     ensures refused { (j : ℕ) → result ≡ 131072 + j → LentUnaltered head.old text.old ledger.old numbers.old head.new text.new ledger.new numbers.new }
 {
-    let changed = live::withdraw(head_of(head, text), ledger, numbers, k as usize);
-    replied(head, text, changed)
+    let reply = live::withdraw(head_of(head, text), ledger, numbers, k as usize);
+    replied(head, text, reply)
 }
 
 // Does p act for q?
@@ -119,7 +100,7 @@ pub fn trials_live_acts_for(
 ) -> u32
     ensures { (x : model.Live) (ledger : List ℕ) → Holds (head_of head.now text.now) ledger numbers.now x → result ≡ number (step (ask_acts_for p.now q.now) x).reply }
 {
-    answer_number(live::acts_for(head_of(head, text), numbers, p, q))
+    rights::answer_number(live::acts_for(head_of(head, text), numbers, p, q))
 }
 
 // Does p flow to q?
@@ -132,5 +113,5 @@ pub fn trials_live_flows_to(
 ) -> u32
     ensures { (x : model.Live) (ledger : List ℕ) → Holds (head_of head.now text.now) ledger numbers.now x → result ≡ number (step (ask_flows_to p.now q.now) x).reply }
 {
-    answer_number(live::flows_to(head_of(head, text), numbers, p, q))
+    rights::answer_number(live::flows_to(head_of(head, text), numbers, p, q))
 }

@@ -6,8 +6,8 @@ use Rattle.model.proofs.Notation.{text_few}
 use Rattle.trials.proofs.Fitting.{fits}
 use Rattle.trials.proofs.trials_read_text.Goals as goal
 
-pub noted_number-requires : goal.noted_number-requires
-noted_number-requires c =
+pub written_number-requires : goal.written_number-requires
+written_number-requires c =
     let f = c.read_text in
     let a = c.args in
     fits 64 f.result (omega arith) (λ k e. text_few a.n a.text.now a.codes.now k (sym (ap (λ (o : Outcome). o.answer) f.ensures) ∙ e))

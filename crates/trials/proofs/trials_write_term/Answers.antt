@@ -6,8 +6,8 @@ use Rattle.model.proofs.Notation.{term_few}
 use Rattle.trials.proofs.Fitting.{fits}
 use Rattle.trials.proofs.trials_write_term.Goals as goal
 
-pub noted_number-requires : goal.noted_number-requires
-noted_number-requires c =
+pub written_number-requires : goal.written_number-requires
+written_number-requires c =
     let f = c.write_term in
     let a = c.args in
     fits 190 f.result (omega arith) (λ k e. term_few a.n a.term.now a.text.now k (sym (ap (λ (o : Outcome). o.answer) f.ensures) ∙ e))

@@ -6,6 +6,6 @@ returns c =
     let a = c.args in
     let given = c.head_of.ensures in
     record {
-      stepped = λ x h. lent_stepped _ x a.head.now a.text.now a.ledger.now a.numbers.now _ _ _ _ _ _ (c.add-changed.ensures.stepped x (rw given h)) (λ j e. rw given at (c.add-changed.ensures.unaltered j e)) c.replied.ensures;
-      refused = lent_unaltered a.head.now a.text.now a.ledger.now a.numbers.now _ _ _ _ _ _ (λ j e. let u = c.add-changed.ensures.unaltered j e in (u.same_ledger, u.same_planes)) c.replied.ensures;
+      stepped = λ x h. lent_stepped _ x a.head.now a.text.now a.ledger.now a.numbers.now _ _ _ _ _ _ (rw given at (c.add-reply.ensures.stepped x (rw given h))) c.replied.ensures;
+      refused = lent_unaltered a.head.now a.text.now a.ledger.now a.numbers.now _ _ _ _ _ _ c.add-reply.ensures.unaltered c.replied.ensures;
     }

@@ -61,8 +61,10 @@ pub fn length_fits(len: usize, size: usize, most: usize) -> bool
 pub fn part(bytes: &[u8], at: usize, len: usize) -> &[u8]
     ensures { result.now ≡ field at len bytes.now }
 {
-    let rest = bytes.get(at..).unwrap_or(&[]);
-    rest.get(..len).unwrap_or(rest)
+    match bytes.get(at..) {
+        Some(rest) => rest.get(..len).unwrap_or(rest),
+        None => &[],
+    }
 }
 
 // Of pieces of `size` bytes, piece k: as much of it as there is.

@@ -2,12 +2,10 @@
 use mathlib.Core.Path.{◌≡◌, refl, sym, ap, ◌∙◌}
 use mathlib.Core.Bool.{Bool, true, false, cond, not, ◌&&◌, and-true, and_assoc}
 use mathlib.Core.List.{List, [], ◌∷◌, ◌++◌}
-use Prim.Native.Nat.{ℕ, ◌+◌, ◌/◌, ◌%◌, ◌^◌, ◌≤◌}
+use Prim.Native.Nat.{ℕ, ◌+◌, ◌≤◌}
 use native.Mathlib.Numerals.{add-one}
 use native.Mathlib.Decide.{le_ind}
 use lib.Bits.{bit_and}
-use lib.Pow.{shr-shr}
-use borrow.Author.Tests.{eq-eqb, ne_eqb}
 use Rattle.model.specs.Sides.{Side}
 use Rattle.model.specs.Coalitions.{member, Marks, implies}
 use Rattle.model.specs.Terms.{held}
@@ -134,17 +132,3 @@ module _ (ledger : List ℕ) (chosen : ℕ) (f : Marks) (g : ℕ) where
     -- the bit is not set
     pub keep_skip : member k chosen ≡ false → RowsAt (keep_first k) g x → RowsAt (keep_first (k + 1)) g x
     keep_skip off h = keep_step (rw off (rows_cong g (keep_first k) (λ s c. keep_first k s c && true) x (λ s c _ _. sym (and-true (keep_first k s c))) h))
-
--- ---- as the code goes, the bits of the grants from k on being `left`
-
-module _ (chosen k left : ℕ) (bits : left ≡ chosen / 2 ^ k) where
-  pub bits_next : left / 2 ≡ chosen / 2 ^ (k + 1)
-  bits_next = ap (λ (x : ℕ). x / 2) bits ∙ shr-shr chosen k 1
-
-  pub bit-set : left % 2 ≡ 1 → member k chosen ≡ true
-  unfolding member
-  bit-set odd = eq-eqb (chosen / 2 ^ k % 2) 1 (rw bits at odd)
-
-  pub bit_unset : (left % 2 ≡ 1 → ⊥) → member k chosen ≡ false
-  unfolding member
-  bit_unset even = ne_eqb (chosen / 2 ^ k % 2) 1 (λ e. even (rw bits e))

@@ -1,6 +1,6 @@
 -- How many grants are tested for the coalitions of two rows, one grant after another, and for one coalition alone. Assumes nothing.
 use mathlib.Core.Path.{◌≡◌, refl, sym, ap, ap₂, ◌∙◌, subst}
-use mathlib.Core.Bool.{Bool, true, false, cond, ◌&&◌, false≢true}
+use mathlib.Core.Bool.{Bool, true, false, cond, not, ◌&&◌, false≢true}
 use mathlib.Core.List.{List, [], ◌∷◌, ◌++◌, append-nil}
 use Prim.Native.Nat.{ℕ, zero, suc, ◌+◌, ◌-◌, ◌*◌, ◌/◌, ◌≤◌, ◌<◌, max}
 use native.Mathlib.Nat.{le_antisymm}
@@ -196,13 +196,13 @@ module _ (s : Side) (c : ℕ) where
     tested_is b e = ap₂ (λ (b : Bool) (n : ℕ). record { is_sound = b; tested = n }) (sym e) (to.count ∙ only-count (chosen_in ledger grants bits))
 
     -- none is left: it is broken
-    pub only_broken : empty_rows kept.rows ≡ true → record { is_sound = false; tested = kept.tested } ≡ test_in ledger grants bits s c
+    only_broken : empty_rows kept.rows ≡ true → record { is_sound = false; tested = kept.tested } ≡ test_in ledger grants bits s c
     unfolding test_in
     only_broken none = tested_is false (test_says ledger bits s c grants ∙ sym (ap (λ (b : Bool). b && sound_in ledger grants bits s c) (only_self s c))
         ∙ rows_empty (c / 256) _ kept.rows to.rows none s c low_in high_in)
 
     -- one is left: it is sound
-    pub only-sound : empty_rows kept.rows ≡ false → record { is_sound = true; tested = kept.tested } ≡ test_in ledger grants bits s c
+    only-sound : empty_rows kept.rows ≡ false → record { is_sound = true; tested = kept.tested } ≡ test_in ledger grants bits s c
     unfolding test_in
     only-sound some =
         let m = rows_some (c / 256) (λ r d. only s c r d && sound_in ledger grants bits r d) kept.rows to.rows some in
@@ -211,3 +211,10 @@ module _ (s : Side) (c : ℕ) where
         (test_says ledger bits s c grants
         ∙ sym (ap₂ (λ (r : Side) (d : ℕ). sound_in ledger grants bits r d) same.0 same.1)
         ∙ and_right (only s c m.side m.coalition) (sound_in ledger grants bits m.side m.coalition) m.marked)
+
+    pub only_tested : record { is_sound = not (empty_rows kept.rows); tested = kept.tested } ≡ test_in ledger grants bits s c
+    only_tested = by (empty_rows kept.rows) refl
+      where
+        by : (b : Bool) → empty_rows kept.rows ≡ b → record { is_sound = not b; tested = kept.tested } ≡ test_in ledger grants bits s c
+        by true e = only_broken e
+        by false e = only-sound e

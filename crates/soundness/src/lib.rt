@@ -16,17 +16,12 @@ use words::{Row, Rows, Side};
 pub fn broken(ledger: &[u8], k: usize, g: u64, of: Rows) -> Rows
     ensures { (f : Marks) → RowsAt f g of → RowsAt (λ s c. f s c && breaks (marks_of (grant_in ledger.now k)) s c) g result }
 {
-    let from = words::hold(ledger, ledgers::p_place(k), g);
-    let p = from.rows;
-    let holding = Rows {
-        see: words::both(of.see, p.see),
-        change: words::both(of.change, p.change),
-    };
+    let p = words::hold(ledger, ledgers::p_place(k), g).rows;
+    let holding = words::each_side(of, p, words::both);
     if words::none(holding) {
         return holding;
     }
-    let to = words::hold(ledger, ledgers::q_place(k), g);
-    let q = to.rows;
+    let q = words::hold(ledger, ledgers::q_place(k), g).rows;
     words::rest(holding, q)
 }
 
@@ -43,18 +38,14 @@ fn test_rows(ledger: &[u8], grants: usize, chosen: u64, g: u64, of: Rows) -> Kep
 {
     let mut rows = of;
     let mut tested: usize = 0;
-    let mut left = chosen;
-    let mut k: usize = 0;
-    while k < grants {
+    for k in 0..grants {
         if words::none(rows) {
             return Kept { tested, rows };
         }
-        if left % 2 == 1 {
+        if words::bit_set(chosen, k) {
             rows = words::rest(rows, broken(ledger, k, g, rows));
             tested += 1;
         }
-        left /= 2;
-        k += 1;
     }
     Kept { tested, rows }
 }
@@ -63,23 +54,15 @@ fn test_rows(ledger: &[u8], grants: usize, chosen: u64, g: u64, of: Rows) -> Kep
 pub fn sound_row(ledger: &[u8], n: u64, grants: usize, chosen: u64, g: u64) -> Rows
     ensures { RowsAt (λ s. mark n (sound_in ledger.now grants chosen s)) g result }
 {
-    let mask = words::low_row(n, g);
-    let all = Rows {
-        see: mask,
-        change: mask,
-    };
-    let kept = test_rows(ledger, grants, chosen, g, all);
-    kept.rows
+    let all = words::alike(words::low_row(n, g));
+    test_rows(ledger, grants, chosen, g, all).rows
 }
 
 // Word w of the coalition c alone.
 fn only_word(c: u64, w: u64) -> u64
     ensures { result ≡ packed (λ d. eqb d c) (64 * w) 64 }
 {
-    if c / 64 != w {
-        return 0;
-    }
-    1 << (c % 64)
+    if c / 64 == w { 1 << (c % 64) } else { 0 }
 }
 
 // The row in which coalition c stands, with it alone.
@@ -99,12 +82,7 @@ fn only_row(c: u64) -> Row
 fn only(side: Side, c: u64) -> Rows
     ensures { RowsAt (only (side_of side) c) (c / 256) result }
 {
-    let none = Row {
-        a: 0,
-        b: 0,
-        c: 0,
-        d: 0,
-    };
+    let none = words::same(0);
     match side {
         Side::See => Rows {
             see: only_row(c),
@@ -118,6 +96,7 @@ fn only(side: Side, c: u64) -> Rows
 }
 
 // What the test of a coalition on a side gives.
+// Kept: the number says as much of a sound coalition as of a broken one, so an enum would have it twice.
 #[derive(Clone, Copy)]
 pub struct Tested {
     pub sound: bool,
@@ -130,15 +109,8 @@ pub fn test_coalition(ledger: &[u8], grants: usize, chosen: u64, side: Side, c: 
     ensures { tested_of result ≡ test_in ledger.now grants chosen (side_of side) c }
 {
     let kept = test_rows(ledger, grants, chosen, c / 256, only(side, c));
-    let tested = kept.tested;
-    if words::none(kept.rows) {
-        return Tested {
-            sound: false,
-            tested,
-        };
-    }
     Tested {
-        sound: true,
-        tested,
+        sound: !words::none(kept.rows),
+        tested: kept.tested,
     }
 }

@@ -445,8 +445,7 @@ pub fn evaluate(codes: &[u8], n: u64, see: &mut [u64; 64], change: &mut [u64; 64
     ensures change_side { EvaluatedTo (term_in codes.now) integrity (4 * row_count n) change.old change.new }
 {
     for g in 0..row_count(n) {
-        let held = hold(codes, 0, g);
-        let rows = held.rows;
+        let rows = hold(codes, 0, g).rows;
         put_row(see, g as usize, rows.see);
         put_row(change, g as usize, rows.change);
     }

@@ -7,6 +7,6 @@ use Rattle.soundness.proofs.sound_row.Goals as goal
 pub returns : goal.returns
 unfolding mark
 returns c =
-    let mask = c.low_row-mask.ensures in
+    let mask = c.low_row.ensures in
     let n = c.args.n in
-    (c.test_rows-kept.ensures (λ s c. ltb c (2 ^ n)) (rows_of _ (λ s c. ltb c (2 ^ n)) _ _ mask mask)).rows
+    (c.test_rows.ensures (λ s c. ltb c (2 ^ n)) (rw c.alike-all.ensures (rows_of _ (λ s c. ltb c (2 ^ n)) _ _ mask mask))).rows

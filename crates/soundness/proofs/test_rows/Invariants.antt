@@ -1,6 +1,5 @@
 -- The loop's invariant: the rows of those that keep the grants before grant k whose bit is set, and how many of these were tested.
-use Prim.Native.Nat.{◌-◌, ◌/◌, ◌^◌, ◌≤◌}
-use mathlib.Core.Path.{◌≡◌}
+use Prim.Native.Nat.{◌≤◌}
 use Rattle.model.specs.Coalitions.{Marks}
 use Rattle.words.specs.FourWords.{RowsAt}
 use Rattle.soundness.specs.Testing.{TestedTo}
@@ -8,7 +7,4 @@ use Rattle.soundness.proofs.test_rows.Given as goal
 
 abbrev pub invariant-loop-k : goal.invariant-loop-k
 invariant-loop-k l =
-    (l.k ≤ l.grants) × (l.tested ≤ l.k) × (l.left ≡ l.chosen / 2 ^ l.k) × ((f : Marks) → RowsAt f l.g l.initial.rows → TestedTo l.ledger l.k l.chosen f l.g (record { tested = l.tested; rows = l.rows }))
-
-abbrev pub decreases-loop-k : goal.decreases-loop-k
-decreases-loop-k l = l.grants - l.k
+    (l.tested ≤ l.k) × ((f : Marks) → RowsAt f l.g l.initial.rows → TestedTo l.ledger l.k l.chosen f l.g (record { tested = l.tested; rows = l.rows }))

@@ -18,7 +18,7 @@ put_row-requires-in-loop-g c = omega (arith, rows_few c.args.n, c.row_count-g-en
 pub loop-g-preserved : goal.loop-g-preserved
 loop-g-preserved c =
     let i = c.loop-g.invariant in
-    let held = c.hold-held.ensures.held_there in (
+    let held = c.hold.ensures.held_there in (
       rw c.put_row.ensures (evaluated_row _ confidentiality _ _ _ _ i.0 (held.row confidentiality)),
       rw c.put_row-in-loop-g.ensures (evaluated_row _ integrity _ _ _ _ i.1 (held.row integrity)),
     )

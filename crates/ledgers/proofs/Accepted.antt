@@ -8,7 +8,7 @@ use Rattle.model.specs.Ledgers.{Ledger, read_ledger, Book, read_book}
 use Rattle.model.proofs.Stands.{LedgerStands, ledger_stands}
 use Rattle.refusals.specs.declared.Refusal.{Refusal}
 use Rattle.refusals.specs.Numbers.{refusal_number}
-use Rattle.refusals.specs.Results.{reading_of, done}
+use Rattle.refusals.specs.Results.{reading_of}
 use Rattle.ledgers.specs.declared.Sizes.{Sizes}
 use Rattle.ledgers.specs.Readings.{sizes, book_sizes, LedgerOf}
 
@@ -86,20 +86,9 @@ module _ (ledger label : List ℕ) where
   book_ledger day k e = rw e
 
   module _ (day : ℕ) (s : Sizes) (l : AcceptedLedger ledger s) where
-    pub book_label : (k : ℕ) → refused k ≡ from 40 (done (read_term s.names label)) → refused k ≡ book_sizes (read_book ledger label day)
+    pub book_label : (k : ℕ) → read_term s.names label ≡ refused k → refused (40 + k) ≡ book_sizes (read_book ledger label day)
     unfolding read_book
-    book_label k e = rw l.of.is (by (read_term l.ledger.names label) (rw l.of.names at e))
-      where
-        by : (a : Reading Term) → refused k ≡ from 40 (done a)
-            → refused k ≡ book_sizes (and_then (and_then (from 40 a) (λ L. accepted (under l.ledger.names L day))) (λ u. accepted (record { ledger = l.ledger; asked = u })))
-        by (accepted L) f = cc
-        by (refused j) f = let same : k ≡ 40 + j = cc in rw same
+    book_label k e = rw (l.of.is, ← l.of.names, e)
 
-    pub book_both : (u : Unit {0}) → accepted u ≡ from 40 (done (read_term s.names label)) → accepted s ≡ book_sizes (read_book ledger label day)
-    unfolding read_book
-    book_both u e = rw l.of.is (by (read_term l.ledger.names label) (rw l.of.names at e))
-      where
-        by : (a : Reading Term) → accepted u ≡ from 40 (done a)
-            → accepted s ≡ book_sizes (and_then (and_then (from 40 a) (λ L. accepted (under l.ledger.names L day))) (λ u. accepted (record { ledger = l.ledger; asked = u })))
-        by (accepted L) f = rw (← l.of.names, ← l.of.count)
-        by (refused j) f = cc
+    pub book_both : (L : Term) → read_term s.names label ≡ accepted L → accepted s ≡ book_sizes (read_book ledger label day)
+    book_both L e = rw (book_is s.names s.grants l.ledger L l.of e day, ← l.of.names, ← l.of.count)

@@ -402,7 +402,9 @@ impl Held {
 }
 
 // A check sum with one value more.
-fn sum_with(sum: u64, value: u64) -> u64 {
+fn sum_with(sum: u64, value: u64) -> u64
+    ensures { result < 1000000007 }
+{
     (257 * (sum % 1000000007) + value % 1000000007) % 1000000007
 }
 

@@ -8,34 +8,6 @@ ghost use Rattle.counting.specs.Counted.{bars_at, heard_at, on_day, counts_at, c
 
 use words::Row;
 
-// Those of row g that bar grant k from counting under the label: they see the label and not the grant's, or change the grant's and not the label, or
-// change it and don't hold the voice of q. Where none changes the grant's label there is no need of q.
-fn barring(ledger: &[u8], k: usize, label: &[u8], g: u64) -> Row
-    ensures { RowAt (bars_at ledger.now label.now k) g result }
-{
-    let under = words::hold(label, 0, g).rows;
-    let own = words::hold(ledger, ledgers::label_place(k), g).rows;
-    let unseen = words::without(under.see, own.see);
-    if words::empty(own.change) {
-        return unseen;
-    }
-    let q = words::hold(ledger, ledgers::q_place(k), g).rows;
-    let voice = words::both(q.see, q.change);
-    let allowed = words::both(under.change, voice);
-    words::either(unseen, words::without(own.change, allowed))
-}
-
-// And those that are coalitions of n names. The mask is needed only where there are any.
-fn barring_of(ledger: &[u8], n: u64, k: usize, label: &[u8], g: u64) -> Row
-    ensures { RowAt (mark n (bars_at ledger.now label.now k)) g result }
-{
-    let bars = barring(ledger, k, label, g);
-    if words::empty(bars) {
-        return bars;
-    }
-    words::both(words::low_row(n, g), bars)
-}
-
 // A number above each name of the term that the bytes from `at` on stand for, and at least `least`.
 fn names_at(codes: &[u8], at: usize, least: u64) -> u64
     ensures { NamesAt codes.now at least result }
@@ -59,72 +31,133 @@ fn above_name(code: u8, most: u64) -> u64
     }
 }
 
-// How many of the n names there is need to ask when grant k is judged: those up to the highest of the label, of the grant's label and of its q, and at least
-// eight, which have one row. The coalitions with further names only repeat what those without them say.
-fn names_needed(ledger: &[u8], n: u64, k: usize, label: &[u8]) -> u64
-    ensures { NeededOf ledger.now n k label.now result }
-{
-    let asked = names_at(label, 0, 8);
-    let own = names_at(ledger, ledgers::label_place(k), asked);
-    let all = names_at(ledger, ledgers::q_place(k), own);
-    n.min(all)
+// A ledger of so many names and grants, and the label and the day that it is asked under.
+#[derive(Clone, Copy)]
+pub struct Asked<'a> {
+    pub ledger: &'a [u8],
+    pub names: u64,
+    pub grants: usize,
+    pub label: &'a [u8],
+    pub day: u32,
 }
 
-// No coalition of n names in the rows from one to another bars grant k.
-fn rows_clear(ledger: &[u8], n: u64, k: usize, label: &[u8], from: u64, to: u64) -> bool
-    requires { to ≤ 16 }
-    ensures { ClearedTo ledger.now n k label.now from to result }
-{
-    (from..to).all(|g| words::empty(barring_of(ledger, n, k, label, g)))
-}
-
-// Grant k is visible under the label, and spoken. The first row tells most grants that are not.
-fn heard(ledger: &[u8], n: u64, k: usize, label: &[u8]) -> bool
-    ensures { result ≡ heard_at ledger.now n label.now k }
-{
-    if !rows_clear(ledger, n, k, label, 0, 1) {
-        return false;
+impl Asked<'_> {
+    // Those of row g that bar grant k from counting under the label: they see the label and not the grant's, or change the grant's and not the label, or
+    // change it and don't hold the voice of q. Where none changes the grant's label there is no need of q.
+    fn barring(&self, k: usize, g: u64) -> Row
+        ensures { RowAt (bars_at self.now.ledger.now self.now.label.now k) g result }
+    {
+        let under = words::hold(self.label, 0, g).rows;
+        let own = words::hold(self.ledger, ledgers::label_place(k), g).rows;
+        let unseen = words::without(under.see, own.see);
+        if words::empty(own.change) {
+            return unseen;
+        }
+        let q = words::hold(self.ledger, ledgers::q_place(k), g).rows;
+        let voice = words::both(q.see, q.change);
+        let allowed = words::both(under.change, voice);
+        words::either(unseen, words::without(own.change, allowed))
     }
-    if n <= 8 {
-        return true;
-    }
-    let names = names_needed(ledger, n, k, label);
-    rows_clear(ledger, names, k, label, 1, words::row_count(names))
-}
 
-// The day is within the days of grant k.
-fn on_day(ledger: &[u8], k: usize, day: u32) -> bool
-    ensures { result ≡ on_day ledger.now day k }
-{
-    let at = ledgers::days_place(k);
-    let first = fields::four_bytes(ledger, at);
-    let last = fields::four_bytes(ledger, at + 4);
-    dates::in_days(first, last, day)
-}
-
-// Grant k counts under the label on the day. Its days are looked at first, which costs least.
-pub fn counts(ledger: &[u8], n: u64, k: usize, label: &[u8], day: u32) -> bool
-    ensures { result ≡ counts_at ledger.now n label.now day k }
-{
-    on_day(ledger, k, day) && heard(ledger, n, k, label)
-}
-
-// Bit k is set exactly if grant k counts. No ledger has more grants than 64.
-pub fn counted(ledger: &[u8], n: u64, grants: usize, label: &[u8], day: u32) -> u64
-    ensures { result ≡ counted_in ledger.now n grants label.now day }
-{
-    if 64 < grants {
-        return 0;
+    // And those that are coalitions of n names. The mask is needed only where there are any.
+    fn barring_of(&self, n: u64, k: usize, g: u64) -> Row
+        ensures { RowAt (mark n (bars_at self.now.ledger.now self.now.label.now k)) g result }
+    {
+        let bars = self.barring(k, g);
+        if words::empty(bars) {
+            return bars;
+        }
+        words::both(words::low_row(n, g), bars)
     }
-    let mut counted: u64 = 0;
-    for k in (0..grants).rev() {
-        counted = (counted << 1) | counts(ledger, n, k, label, day) as u64;
+
+    // How many of the names there is need to ask when grant k is judged: those up to the highest of the label, of the grant's label and of its q, and at least
+    // eight, which have one row. The coalitions with further names only repeat what those without them say.
+    fn names_needed(&self, k: usize) -> u64
+        ensures { NeededOf self.now.ledger.now self.now.names k self.now.label.now result }
+    {
+        let asked = names_at(self.label, 0, 8);
+        let own = names_at(self.ledger, ledgers::label_place(k), asked);
+        let all = names_at(self.ledger, ledgers::q_place(k), own);
+        self.names.min(all)
     }
-    counted
+
+    // No coalition of n names in the rows from one to another bars grant k.
+    fn rows_clear(&self, n: u64, k: usize, from: u64, to: u64) -> bool
+        requires { to ≤ 16 }
+        ensures { ClearedTo self.now.ledger.now n k self.now.label.now from to result }
+    {
+        (from..to).all(|g| words::empty(self.barring_of(n, k, g)))
+    }
+
+    // Grant k is visible under the label, and spoken. The first row tells most grants that are not.
+    fn heard(&self, k: usize) -> bool
+        ensures { result ≡ heard_at self.now.ledger.now self.now.names self.now.label.now k }
+    {
+        if !self.rows_clear(self.names, k, 0, 1) {
+            return false;
+        }
+        if self.names <= 8 {
+            return true;
+        }
+        let names = self.names_needed(k);
+        self.rows_clear(names, k, 1, words::row_count(names))
+    }
+
+    // The day is within the days of grant k.
+    fn on_day(&self, k: usize) -> bool
+        ensures { result ≡ on_day self.now.ledger.now self.now.day k }
+    {
+        let at = ledgers::days_place(k);
+        let first = fields::four_bytes(self.ledger, at);
+        let last = fields::four_bytes(self.ledger, at + 4);
+        dates::in_days(first, last, self.day)
+    }
+
+    // Grant k counts under the label on the day. Its days are looked at first, which costs least.
+    pub fn counts(&self, k: usize) -> bool
+        ensures { result ≡ counts_at self.now.ledger.now self.now.names self.now.label.now self.now.day k }
+    {
+        self.on_day(k) && self.heard(k)
+    }
+
+    // Bit k is set exactly if grant k counts. No ledger has more grants than 64.
+    pub fn counted(&self) -> u64
+        ensures { result ≡ counted_in self.now.ledger.now self.now.names self.now.grants self.now.label.now self.now.day }
+    {
+        if 64 < self.grants {
+            return 0;
+        }
+        let mut counted: u64 = 0;
+        for k in (0..self.grants).rev() {
+            counted = (counted << 1) | self.counts(k) as u64;
+        }
+        counted
+    }
+
+    // What is known once grant k, if it may count, is judged. It is judged once.
+    pub fn judge(&self, k: usize, known: Known) -> Known
+        ensures { result ≡ judged_at (counts_at self.now.ledger.now self.now.names self.now.label.now self.now.day k) k known }
+    {
+        if !may_count(known, k) || !words::bit_set(known.unjudged, k) {
+            return known;
+        }
+        let bit: u64 = 1 << k;
+        let judged = Known {
+            unjudged: known.unjudged - bit,
+            ..known
+        };
+        if self.counts(k) {
+            return judged;
+        }
+        Known {
+            possible: known.possible - bit,
+            ..judged
+        }
+    }
 }
 
 // What is known of the grants: bit k of `unjudged` is set until grant k is judged, and bit k of `possible` until it is known not to count.
-#[derive(Clone, Copy)]
+#[derive(Clone, Copy, Debug, PartialEq, Eq)]
 pub struct Known {
     pub unjudged: u64,
     pub possible: u64,
@@ -145,25 +178,4 @@ pub fn may_count(known: Known, k: usize) -> bool
     ensures { result ≡ member k known.possible }
 {
     words::bit_set(known.possible, k)
-}
-
-// What is known once grant k, if it may count, is judged. It is judged once.
-pub fn judge(ledger: &[u8], n: u64, k: usize, label: &[u8], day: u32, known: Known) -> Known
-    ensures { result ≡ judged_at (counts_at ledger.now n label.now day k) k known }
-{
-    if !may_count(known, k) || !words::bit_set(known.unjudged, k) {
-        return known;
-    }
-    let bit: u64 = 1 << k;
-    let judged = Known {
-        unjudged: known.unjudged - bit,
-        ..known
-    };
-    if counts(ledger, n, k, label, day) {
-        return judged;
-    }
-    Known {
-        possible: known.possible - bit,
-        ..judged
-    }
 }

@@ -12,6 +12,7 @@ ghost use Rattle.derivations.specs.Steps.{rule_is, rule_or_none, fields_form, fi
 ghost use Rattle.derivations.specs.Answers.{step_number, step_reading, rule_reading, checked_of, part_of};
 ghost use Rattle.derivations.specs.declared.DerivationRefusal.TheVariants.{Call};
 
+use counting::Asked;
 use fields::TermField;
 use ledgers::Sizes;
 use refusals::Refusal;
@@ -297,7 +298,14 @@ pub fn check_derivation(
     if !fields::length_fits(derivation.len(), 136, 8704) {
         return Err(DerivationRefusal::Call(Refusal::DerivationLength));
     }
-    let counted = counting::counted(ledger, sizes.names, sizes.grants, label, day);
+    let asked = Asked {
+        ledger,
+        names: sizes.names,
+        grants: sizes.grants,
+        label,
+        day,
+    };
+    let counted = asked.counted();
     check_steps(
         derivation,
         Book {

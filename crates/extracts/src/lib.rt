@@ -7,6 +7,7 @@ ghost use Rattle.soundness.specs.Keeping.{sound_in};
 ghost use Rattle.extracts.specs.Halves.{paste_word, paste_row, blank, Halves};
 ghost use Rattle.extracts.specs.Results.{outcome_of};
 
+use counting::Asked;
 use refusals::Refusal;
 use words::Row;
 
@@ -54,7 +55,14 @@ pub fn extract(ledger: &[u8], label: &[u8], day: u32, buffer: &mut [u8]) -> Resu
         return Err(Refusal::ExtractLength);
     }
     let book = ledgers::read_book(ledger, label)?;
-    let counted = counting::counted(ledger, book.names, book.grants, label, day);
+    let asked = Asked {
+        ledger,
+        names: book.names,
+        grants: book.grants,
+        label,
+        day,
+    };
+    let counted = asked.counted();
     buffer.fill(0);
     let (see, change) = buffer.split_at_mut(512);
     mark_sound(ledger, book.names, book.grants, counted, see, change);

@@ -11,6 +11,7 @@ ghost use Rattle.questions.specs.Answers.{answer_of};
 ghost use Rattle.refusals.specs.declared.Refusal.{Refusal};
 ghost use Rattle.live.specs.Held.{live_of, Holds, Stepped, Unaltered, Made};
 
+use counting::Asked;
 use questions::{Refuter, Relation};
 use refusals::Refusal;
 
@@ -86,14 +87,20 @@ pub fn add(
     ensures stepped { (x : model.Live) → Holds live ledger.old numbers.old x → Stepped (add block.now) x live ledger.old result ledger.new numbers.new }
     ensures unaltered { (why : Refusal) → result ≡ Err why → Unaltered ledger.old numbers.old ledger.new numbers.new }
 {
-    let n = live.names as u64;
-    ledgers::read_block(block, n)?;
+    ledgers::read_block(block, live.names as u64)?;
     if 64 <= live.held {
         return Err(Refusal::Full);
     }
     blocks::append(ledger, live.names, live.held, block);
     let written = fields::part(&ledger[..], 0, 512 * (live.held + 2));
-    stored::count_in(numbers, written, n, live.held, live.label(), live.day);
+    let asked = Asked {
+        ledger: written,
+        names: live.names as u64,
+        grants: live.held + 1,
+        label: live.label(),
+        day: live.day,
+    };
+    stored::count_in(numbers, &asked, live.held);
     Ok(Live {
         held: live.held + 1,
         ..live
@@ -114,9 +121,15 @@ pub fn withdraw(
     if live.held <= k || 64 < live.held {
         return Err(Refusal::NoGrant);
     }
-    let n = live.names as u64;
     let written = fields::part(&ledger[..], 0, 512 * (live.held + 1));
-    stored::count_out(numbers, written, n, k, live.label(), live.day);
+    let asked = Asked {
+        ledger: written,
+        names: live.names as u64,
+        grants: live.held,
+        label: live.label(),
+        day: live.day,
+    };
+    stored::count_out(numbers, &asked, k);
     blocks::remove(ledger, live.names, live.held, k);
     Ok(Live {
         held: live.held - 1,

@@ -6,7 +6,7 @@ use Rattle.words.specs.FourWords.{RowsAt}
 use Rattle.counting.specs.declared.Known.{Known}
 use Rattle.counting.specs.Counted.{KnownOf, counts_at, counted_in}
 use Rattle.soundness.specs.Keeping.{sound_in}
-use Rattle.questions.specs.declared.Asked.{Asked}
+use Rattle.counting.specs.declared.Asked.{Asked}
 use Rattle.questions.specs.declared.Sifted.{Sifted}
 
 -- every coalition is sound

@@ -13,7 +13,7 @@ ghost use Rattle.questions.specs.Answers.{answer_of, relation_of};
 ghost use Rattle.questions.specs.Searching.{found_at, opposed_of, judge_of, verdict_of, lowest_in, placed, still_rows, further_of};
 ghost use Rattle.questions.specs.Sieving.{EverySound, SoundAsked, SiftedTo, counts_asked, sound_asked};
 
-use counting::Known;
+use counting::{Asked, Known};
 use refusals::Refusal;
 use words::{Row, Rows, Side};
 
@@ -163,53 +163,41 @@ struct Sifted {
     known: Known,
 }
 
-// A ledger of so many names and grants, under a label and on a day.
-#[derive(Clone, Copy)]
-struct Asked<'a> {
-    ledger: &'a [u8],
-    names: u64,
-    grants: usize,
-    label: &'a [u8],
-    day: u32,
+// Takes away those that break grant k, if it counts. It is judged only where one of them breaks it.
+fn sift_grant(asked: &Asked<'_>, k: usize, g: u64, of: Sifted) -> Sifted
+    ensures { k < 64 → (f : Marks) → SiftedTo (counts_asked asked.now) f g of → SiftedTo (counts_asked asked.now) (λ s c. f s c && implies (counts_asked asked.now k) (keeps (marks_of (grant_in asked.now.ledger.now k)) s c)) g result }
+{
+    let left = of.left;
+    let before = of.known;
+    if !counting::may_count(before, k) {
+        return of;
+    }
+    let gone = soundness::broken(asked.ledger, k, g, left);
+    if words::none(gone) {
+        return of;
+    }
+    let known = asked.judge(k, before);
+    if !counting::may_count(known, k) {
+        return Sifted { left, known };
+    }
+    Sifted {
+        left: words::rest(left, gone),
+        known,
+    }
 }
 
-impl Asked<'_> {
-    // Takes away those that break grant k, if it counts. It is judged only where one of them breaks it.
-    fn sift_grant(&self, k: usize, g: u64, of: Sifted) -> Sifted
-        ensures { k < 64 → (f : Marks) → SiftedTo (counts_asked self.now) f g of → SiftedTo (counts_asked self.now) (λ s c. f s c && implies (counts_asked self.now k) (keeps (marks_of (grant_in self.now.ledger.now k)) s c)) g result }
-    {
-        let left = of.left;
-        let before = of.known;
-        if !counting::may_count(before, k) {
-            return of;
+// Takes away those that break a counting grant. It ends where none is left.
+fn sift(asked: &Asked<'_>, g: u64, of: Sifted) -> Sifted
+    ensures { asked.now.grants ≤ 64 → (f : Marks) → SiftedTo (counts_asked asked.now) f g of → SiftedTo (counts_asked asked.now) (λ s c. f s c && sound_asked asked.now s c) g result }
+{
+    let mut sifted = of;
+    for k in 0..asked.grants {
+        if words::none(sifted.left) {
+            return sifted;
         }
-        let gone = soundness::broken(self.ledger, k, g, left);
-        if words::none(gone) {
-            return of;
-        }
-        let known = counting::judge(self.ledger, self.names, k, self.label, self.day, before);
-        if !counting::may_count(known, k) {
-            return Sifted { left, known };
-        }
-        Sifted {
-            left: words::rest(left, gone),
-            known,
-        }
+        sifted = sift_grant(asked, k, g, sifted);
     }
-
-    // Takes away those that break a counting grant. It ends where none is left.
-    fn sift(&self, g: u64, of: Sifted) -> Sifted
-        ensures { self.now.grants ≤ 64 → (f : Marks) → SiftedTo (counts_asked self.now) f g of → SiftedTo (counts_asked self.now) (λ s c. f s c && sound_asked self.now s c) g result }
-    {
-        let mut sifted = of;
-        for k in 0..self.grants {
-            if words::none(sifted.left) {
-                return sifted;
-            }
-            sifted = self.sift_grant(k, g, sifted);
-        }
-        sifted
-    }
+    sifted
 }
 
 // The grants of a ledger, and what is known of them.
@@ -223,7 +211,8 @@ impl Sieve for Grants<'_> {
     ghost keeps = { λ it S. SoundAsked it.asked it.known S };
 
     fn sift(&mut self, g: u64, of: Rows) -> Rows {
-        let sifted = self.asked.sift(
+        let sifted = sift(
+            &self.asked,
             g,
             Sifted {
                 left: of,

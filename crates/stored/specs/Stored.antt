@@ -3,6 +3,10 @@ use Rattle.std.specs.Prelude.{◌≡◌, cond, List, ℕ, ◌+◌, ◌^◌, ◌<
 use Rattle.model.specs.Sides.{Side, confidentiality, integrity}
 use Rattle.model.specs.Coalitions.{Marks, bit}
 use Rattle.model.specs.Live.{Numbers, sound_by}
+use Rattle.model.specs.Grants.{Under, under}
+use Rattle.words.specs.AnyBytes.{term_in}
+use Rattle.words.specs.Evaluation.{job_of}
+use Rattle.counting.specs.declared.Asked.{Asked}
 use Rattle.planes.specs.Digits.{Digits, Raised, Lowered}
 use Rattle.words.specs.declared.Row.{Row}
 use Rattle.stored.specs.declared.Step.{Step}
@@ -54,3 +58,7 @@ pub record SoundStored (planes : List ℕ) (S : Marks) : Type 0 where
   pub stored : Stored names planes numbers
   pub small : Small numbers
   pub is : (s : Side) (c : ℕ) → S s c ≡ sound_by (of_job names numbers) s c
+
+-- the label and the day that a ledger is asked under
+abbrev pub under_asked : Asked → Under
+under_asked a = under (job_of a.names) (term_in a.label.now) a.day

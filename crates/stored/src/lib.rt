@@ -4,15 +4,16 @@
 
 ghost use Rattle.std.specs.Prelude.{◌≡◌, ◌&&◌, ℕ, ◌<◌, length};
 ghost use Rattle.model.specs.Coalitions.{Marks, mark};
-ghost use Rattle.model.specs.Grants.{marks_of, breaks, under};
+ghost use Rattle.model.specs.Grants.{marks_of, breaks};
 ghost use Rattle.model.specs.Live.{Numbers, breaks_counting, sound_by};
 ghost use Rattle.words.specs.AnyBytes.{term_in};
 ghost use Rattle.words.specs.FourWords.{RowsAt};
 ghost use Rattle.words.specs.Evaluation.{job_of};
 ghost use Rattle.counting.specs.Counted.{grant_in};
 ghost use Rattle.questions.specs.Searching.{verdict_of, judge_of};
-ghost use Rattle.stored.specs.Stored.{of_job, more, Stored, Small, RowStepped, Steps, SoundStored};
+ghost use Rattle.stored.specs.Stored.{of_job, more, Stored, Small, RowStepped, Steps, SoundStored, under_asked};
 
+use counting::Asked;
 use questions::{Refuter, Relation, Sieve};
 use words::{Row, Rows};
 
@@ -61,35 +62,27 @@ impl Step {
     }
 
     // The same, if the grant counts under the label on the day.
-    fn counting(
-        self,
-        numbers: &mut [u64; 896],
-        ledger: &[u8],
-        n: u64,
-        k: usize,
-        label: &[u8],
-        day: u32,
-    )
-        ensures { Steps self n (breaks_counting (under (job_of n) (term_in label.now) day) (grant_in ledger.now k)) numbers.old numbers.new }
+    fn counting(self, numbers: &mut [u64; 896], asked: &Asked<'_>, k: usize)
+        ensures { Steps self asked.now.names (breaks_counting (under_asked asked.now) (grant_in asked.now.ledger.now k)) numbers.old numbers.new }
     {
-        if counting::counts(ledger, n, k, label, day) {
-            self.grant(numbers, ledger, n, k);
+        if asked.counts(k) {
+            self.grant(numbers, asked.ledger, asked.names, k);
         }
     }
 }
 
 // Grant k's part is added, if it counts under the label on the day.
-pub fn count_in(numbers: &mut [u64; 896], ledger: &[u8], n: u64, k: usize, label: &[u8], day: u32)
-    ensures { (f : Numbers) → Stored n numbers.old f → Stored n numbers.new (more f (breaks_counting (under (job_of n) (term_in label.now) day) (grant_in ledger.now k))) }
+pub fn count_in(numbers: &mut [u64; 896], asked: &Asked<'_>, k: usize)
+    ensures { (f : Numbers) → Stored asked.now.names numbers.old f → Stored asked.now.names numbers.new (more f (breaks_counting (under_asked asked.now) (grant_in asked.now.ledger.now k))) }
 {
-    Step::Raise.counting(numbers, ledger, n, k, label, day);
+    Step::Raise.counting(numbers, asked, k);
 }
 
 // And taken away, if it counts.
-pub fn count_out(numbers: &mut [u64; 896], ledger: &[u8], n: u64, k: usize, label: &[u8], day: u32)
-    ensures { (f : Numbers) → Stored n numbers.old (more f (breaks_counting (under (job_of n) (term_in label.now) day) (grant_in ledger.now k))) → Stored n numbers.new f }
+pub fn count_out(numbers: &mut [u64; 896], asked: &Asked<'_>, k: usize)
+    ensures { (f : Numbers) → Stored asked.now.names numbers.old (more f (breaks_counting (under_asked asked.now) (grant_in asked.now.ledger.now k))) → Stored asked.now.names numbers.new f }
 {
-    Step::Lower.counting(numbers, ledger, n, k, label, day);
+    Step::Lower.counting(numbers, asked, k);
 }
 
 // All numbers become 0.

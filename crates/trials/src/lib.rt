@@ -11,6 +11,7 @@ ghost use Rattle.model.specs.Notation.{read_text, write_term};
 ghost use Rattle.words.specs.FourWords.{side_of};
 ghost use Rattle.trials.specs.Figures.{sum_number, tested_reading, test_on, side_numbered, test_number};
 
+use counting::Asked;
 use refusals::Refusal;
 use soundness::Tested;
 use words::Side;
@@ -63,7 +64,14 @@ fn test_on(
         return Err(Refusal::NotReal);
     }
     let sizes = ledgers::read_book(ledger, label)?;
-    let counted = counting::counted(ledger, sizes.names, sizes.grants, label, day);
+    let asked = Asked {
+        ledger,
+        names: sizes.names,
+        grants: sizes.grants,
+        label,
+        day,
+    };
+    let counted = asked.counted();
     Ok(soundness::test_coalition(ledger, sizes.grants, counted, side, coalition))
 }
 

@@ -3,7 +3,7 @@ use Prim.Native.Nat.{◌-◌, ◌≤◌}
 use mathlib.Core.Path.{◌≡◌}
 use Rattle.model.specs.Coalitions.{packed}
 use Rattle.counting.specs.Counted.{counts_in}
-use Rattle.counting.proofs.counted.Given as goal
+use Rattle.counting.proofs.Asked.counted.Given as goal
 
 abbrev pub invariant-loop-k : goal.invariant-loop-k
-invariant-loop-k l = (l.grants ≤ 64) × (l.counted ≡ packed (counts_in l.ledger l.n l.grants l.label l.day) l.k (64 - l.k))
+invariant-loop-k l = (l.self.grants ≤ 64) × (l.counted ≡ packed (counts_in l.self.ledger.now l.self.names l.self.grants l.self.label.now l.self.day) l.k (64 - l.k))

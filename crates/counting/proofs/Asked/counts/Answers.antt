@@ -1,7 +1,7 @@
 -- Its days, and then whether it is heard.
 use mathlib.Core.Path.{sym, ◌∙◌}
 use Rattle.model.specs.Grants.{counts_under}
-use Rattle.counting.proofs.counts.Goals as goal
+use Rattle.counting.proofs.Asked.counts.Goals as goal
 
 pub returns-then-on_day : goal.returns-then-on_day
 unfolding counts_under

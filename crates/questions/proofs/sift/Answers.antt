@@ -2,7 +2,7 @@ use native.Mathlib.Omega.{arith}
 use mathlib.Core.Path.{◌≡◌, sym, ◌∙◌}
 use Rattle.soundness.proofs.Steps.{keep_none, keep_empty}
 use Rattle.questions.proofs.Sifting.{sift_more}
-use Rattle.questions.proofs.Asked.sift.Goals as goal
+use Rattle.questions.proofs.sift.Goals as goal
 
 pub loop-k-init : goal.loop-k-init
 loop-k-init c = (omega arith, λ b f h. record { rows = keep_none _ _ f _ _ h.rows; so = h.so })
@@ -20,5 +20,5 @@ loop-k-preserved c =
 pub returns : goal.returns
 returns c b f h =
     let i = c.loop-k.invariant in
-    let e : c.loop-k.k ≡ c.args.self.now.grants = omega arith in
+    let e : c.loop-k.k ≡ c.args.asked.now.grants = omega arith in
     rw e at (i.1 b f h)

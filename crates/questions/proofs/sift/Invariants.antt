@@ -4,10 +4,10 @@ use Rattle.model.specs.Coalitions.{Marks}
 use Rattle.counting.specs.Counted.{counted_in}
 use Rattle.soundness.proofs.Steps.{keep_first}
 use Rattle.questions.specs.Sieving.{SiftedTo, counts_asked}
-use Rattle.questions.proofs.Asked.sift.Given as goal
+use Rattle.questions.proofs.sift.Given as goal
 
 abbrev pub invariant-loop-k : goal.invariant-loop-k
 invariant-loop-k l =
-    (l.k ≤ l.self.grants)
-    × (l.self.grants ≤ 64 → (f : Marks) → SiftedTo (counts_asked l.self) f l.g l.initial.sifted
-    → SiftedTo (counts_asked l.self) (keep_first l.self.ledger.now (counted_in l.self.ledger.now l.self.names l.self.grants l.self.label.now l.self.day) f l.g l.k) l.g l.sifted)
+    (l.k ≤ l.asked.grants)
+    × (l.asked.grants ≤ 64 → (f : Marks) → SiftedTo (counts_asked l.asked) f l.g l.initial.sifted
+    → SiftedTo (counts_asked l.asked) (keep_first l.asked.ledger.now (counted_in l.asked.ledger.now l.asked.names l.asked.grants l.asked.label.now l.asked.day) f l.g l.k) l.g l.sifted)

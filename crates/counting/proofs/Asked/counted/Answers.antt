@@ -4,25 +4,25 @@ use mathlib.Core.Path.{◌≡◌, ◌∙◌}
 use borrow.Author.Tests.{lt-ltb, le-ltb}
 use Rattle.counting.specs.Counted.{counts_in, counted_in}
 use Rattle.counting.proofs.Bits.{bits_none, bits_more}
-use Rattle.counting.proofs.counted.Goals as goal
+use Rattle.counting.proofs.Asked.counted.Goals as goal
 
-pub returns-then-grants-gt64 : goal.returns-then-grants-gt64
+pub returns-then-self-gt64 : goal.returns-then-self-gt64
 unfolding counted_in
-returns-then-grants-gt64 c = rw (lt-ltb 64 _ c.if-grants-gt64.true)
+returns-then-self-gt64 c = rw (lt-ltb 64 _ c.if-self-gt64.true)
 
 pub loop-k-init : goal.loop-k-init
 loop-k-init c =
     let a = c.args in
-    (omega arith, bits_none (counts_in a.ledger.now a.n a.grants a.label.now a.day) _ (λ k l. rw (le-ltb k a.grants l)))
+    (omega arith, bits_none (counts_in a.self.now.ledger.now a.self.now.names a.self.now.grants a.self.now.label.now a.self.now.day) _ (λ k l. rw (le-ltb k a.self.now.grants l)))
 
 pub loop-k-preserved : goal.loop-k-preserved
 loop-k-preserved c =
     let a = c.args in
     let i = c.loop-k.invariant in
-    let below : c.loop-k.k - 1 < a.grants = omega arith in (
+    let below : c.loop-k.k - 1 < a.self.now.grants = omega arith in (
       i.0,
-      bits_more (counts_in a.ledger.now a.n a.grants a.label.now a.day) c.loop-k.k _ _ c.loop-k-test.true (omega arith) i.1
-          (c.counts.ensures ∙ rw (lt-ltb (c.loop-k.k - 1) a.grants below)),
+      bits_more (counts_in a.self.now.ledger.now a.self.now.names a.self.now.grants a.self.now.label.now a.self.now.day) c.loop-k.k _ _ c.loop-k-test.true (omega arith) i.1
+          (c.counts.ensures ∙ rw (lt-ltb (c.loop-k.k - 1) a.self.now.grants below)),
     )
 
 pub returns : goal.returns

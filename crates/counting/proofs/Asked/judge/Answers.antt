@@ -7,8 +7,8 @@ use Rattle.model.specs.Coalitions.{member}
 use Rattle.model.proofs.Packed.{shifted}
 use Rattle.model.proofs.Monotone.{member_le}
 use Rattle.counting.proofs.Knowing.{may_below, judged_yes, judged_no}
-use Rattle.counting.proofs.judge.Goals as goal
-use Rattle.counting.proofs.judge.Goals.{Else-not-bit_set}
+use Rattle.counting.proofs.Asked.judge.Goals as goal
+use Rattle.counting.proofs.Asked.judge.Goals.{Else-not-bit_set}
 
 -- the grant may count, so it is one of the 64, and it isn't judged
 may : (c : Else-not-bit_set) → member c.args.k c.args.known.possible ≡ true

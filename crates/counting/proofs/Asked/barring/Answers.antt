@@ -7,14 +7,14 @@ use Rattle.words.specs.AnyBytes.{term_in}
 use Rattle.words.specs.FourWords.{RowsAt, each_word, lacks_word}
 use Rattle.counting.specs.Counted.{grant_in}
 use Rattle.counting.proofs.Tests.{bars_unseen, bars_row}
-use Rattle.counting.proofs.barring.Goals as goal
-use Rattle.counting.proofs.barring.Goals.{After-hold-2}
+use Rattle.counting.proofs.Asked.barring.Goals as goal
+use Rattle.counting.proofs.Asked.barring.Goals.{After-hold-2}
 
 -- the rows of the grant's label
-own_rows : (c : After-hold-2) → let a = c.args in RowsAt (held (grant_in a.ledger.now a.k).label) a.g c.hold-2.result.rows
+own_rows : (c : After-hold-2) → let a = c.args in RowsAt (held (grant_in a.self.now.ledger.now a.k).label) a.g c.hold-2.result.rows
 own_rows c =
     let a = c.args in
-    subst (λ (at : ℕ). RowsAt (held (term_in (drop at a.ledger.now))) a.g c.hold-2.result.rows) c.label_place.ensures c.hold-2.ensures.held_there
+    subst (λ (at : ℕ). RowsAt (held (term_in (drop at a.self.now.ledger.now))) a.g c.hold-2.result.rows) c.label_place.ensures c.hold-2.ensures.held_there
 
 pub returns-then-empty : goal.returns-then-empty
 returns-then-empty c =
@@ -24,8 +24,8 @@ pub returns : goal.returns
 returns c =
     let a = c.args in
     let under = c.hold.result.rows in
-    let q : RowsAt (held (grant_in a.ledger.now a.k).q) a.g c.hold-3.result.rows =
-    subst (λ (at : ℕ). RowsAt (held (term_in (drop at a.ledger.now))) a.g c.hold-3.result.rows) c.q_place.ensures c.hold-3.ensures.held_there in
+    let q : RowsAt (held (grant_in a.self.now.ledger.now a.k).q) a.g c.hold-3.result.rows =
+    subst (λ (at : ℕ). RowsAt (held (term_in (drop at a.self.now.ledger.now))) a.g c.hold-3.result.rows) c.q_place.ensures c.hold-3.ensures.held_there in
     bars_row _ _ _ _ _ c.hold.ensures.held_there (own_rows (goal.at.returns c).After-hold-2) _ _ q
     (c.either.ensures
     ∙ ap₂ (each_word bit_or) c.without-unseen.ensures

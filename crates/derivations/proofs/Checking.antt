@@ -1,14 +1,13 @@
 -- A step's check, one test after another. Assumes nothing.
-use Prim.Native.Nat.{ℕ, suc, ◌+◌, ◌-◌, ◌%◌, ◌≤◌, ◌<◌}
+use Prim.Native.Nat.{ℕ, suc, ◌+◌, ◌-◌, ◌≤◌, ◌<◌}
 use native.Mathlib.Nat.{sub-zero}
 use native.Mathlib.Numerals.{add-one}
 use native.Mathlib.Omega.{arith}
 use mathlib.Core.Path.{◌≡◌, refl, subst, ◌∙◌}
 use mathlib.Core.Bool.{Bool, true, false, cond, not, ◌&&◌, ◌||◌}
 use mathlib.Core.List.{List, []}
-use lib.Dec.{eqb, ltb, leb}
+use lib.Dec.{eqb, ltb}
 use lib.ListN.{length}
-use borrow.Author.Tests.{leb-true}
 use Rattle.model.specs.Bytes.{byte}
 use Rattle.model.specs.Coalitions.{member}
 use Rattle.model.specs.Readings.{Reading, accepted, refused, and_then, require, refused_as, is_accepted}
@@ -18,7 +17,6 @@ use Rattle.model.specs.Grants.{under, counts_under, Grant, of_grant}
 use Rattle.model.specs.Ledgers.{read_book, Ledger, grant_block}
 use Rattle.model.specs.Answers.{Answer, Yes, Refused as RefusedAnswer}
 use Rattle.model.specs.Derivations.{step_at, Rule, no_rule, rule_of, uses_of, step_form, read_left, read_right, meets, check_step, on_step, check_steps, derivation_length, step_count, check_derivation, if_accepted, quote}
-use Rattle.model.proofs.Truth.{and_right}
 use Rattle.model.proofs.Stands.{ledger_stands}
 use Rattle.model.proofs.Prefixes.{bits_say}
 use Rattle.refusals.specs.Results.{done}
@@ -176,10 +174,6 @@ module _ (l : Ledger) (f : Grant → Bool) (d : List ℕ) where
   steps_end k h =
       let none : step_count d - k ≡ 0 = omega arith in
       rw none
-
--- at most 64 steps
-pub length_most : (k : ℕ) → derivation_length k ≡ true → k ≤ 8704
-length_most k e = leb-true k 8704 (and_right (leb 136 k) (leb k 8704) (and_right (eqb (k % 136) 0) (leb 136 k && leb k 8704) e))
 
 -- ---- the whole check: the day, the ledger and the label, the length, the steps
 

@@ -48,12 +48,12 @@ impl Asked<'_> {
         ensures { RowAt (bars_at self.now.ledger.now self.now.label.now k) g result }
     {
         let under = words::hold(self.label, 0, g).rows;
-        let own = words::hold(self.ledger, ledgers::label_place(k), g).rows;
+        let own = words::hold(self.ledger, ledgers::block_place(k) + ledgers::LABEL.at, g).rows;
         let unseen = words::without(under.see, own.see);
         if words::empty(own.change) {
             return unseen;
         }
-        let q = words::hold(self.ledger, ledgers::q_place(k), g).rows;
+        let q = words::hold(self.ledger, ledgers::block_place(k) + ledgers::Q.at, g).rows;
         let voice = words::both(q.see, q.change);
         let allowed = words::both(under.change, voice);
         words::either(unseen, words::without(own.change, allowed))
@@ -76,8 +76,12 @@ impl Asked<'_> {
         ensures { NeededOf self.now.ledger.now self.now.names k self.now.label.now result }
     {
         let asked = names_at(self.label, 0, 8);
-        let own = names_at(self.ledger, ledgers::label_place(k), asked);
-        let all = names_at(self.ledger, ledgers::q_place(k), own);
+        let own = names_at(
+            self.ledger,
+            ledgers::block_place(k) + ledgers::LABEL.at,
+            asked,
+        );
+        let all = names_at(self.ledger, ledgers::block_place(k) + ledgers::Q.at, own);
         self.names.min(all)
     }
 
@@ -107,7 +111,7 @@ impl Asked<'_> {
     fn on_day(&self, k: usize) -> bool
         ensures { result ≡ on_day self.now.ledger.now self.now.day k }
     {
-        let at = ledgers::days_place(k);
+        let at = ledgers::block_place(k) + ledgers::DAYS;
         let first = fields::four_bytes(self.ledger, at);
         let last = fields::four_bytes(self.ledger, at + 4);
         dates::in_days(first, last, self.day)

@@ -9,6 +9,7 @@ ghost use Rattle.extracts.specs.Results.{outcome_of};
 
 use counting::Asked;
 use refusals::Refusal;
+use soundness::Chosen;
 use words::Row;
 
 // Bytes 8 × w to 8 × w + 7 of a half become those of a word of marks, lowest first: coalition c is bit c mod 8 of byte c div 8.
@@ -32,13 +33,13 @@ fn put_row(half: &mut [u8], g: u64, row: Row)
 }
 
 // Marks in both halves, which are all 00 before, the coalitions that keep each grant whose bit is set.
-fn mark_sound(ledger: &[u8], n: u64, grants: usize, chosen: u64, see: &mut [u8], change: &mut [u8])
+fn mark_sound(chosen: &Chosen<'_>, n: u64, see: &mut [u8], change: &mut [u8])
     requires { (see.old ≡ blank 512) × (change.old ≡ blank 512) }
-    ensures { Halves n (sound_in ledger.now grants chosen) see.new change.new }
+    ensures { Halves n (sound_in chosen.now.ledger.now chosen.now.grants chosen.now.bits) see.new change.new }
 {
     let rows = words::row_count(n);
     for g in 0..rows {
-        let sound = soundness::sound_row(ledger, n, grants, chosen, g);
+        let sound = chosen.sound_row(n, g);
         put_row(see, g, sound.see);
         put_row(change, g, sound.change);
     }
@@ -62,9 +63,13 @@ pub fn extract(ledger: &[u8], label: &[u8], day: u32, buffer: &mut [u8]) -> Resu
         label,
         day,
     };
-    let counted = asked.counted();
+    let chosen = Chosen {
+        ledger,
+        grants: book.grants,
+        bits: asked.counted(),
+    };
     buffer.fill(0);
     let (see, change) = buffer.split_at_mut(512);
-    mark_sound(ledger, book.names, book.grants, counted, see, change);
+    mark_sound(&chosen, book.names, see, change);
     Ok(())
 }

@@ -8,7 +8,7 @@ ghost use Rattle.model.specs.Terms.{read_term};
 ghost use Rattle.model.specs.Ledgers.{checked, header, grant_blocks, all_checked, header_form, grant_form, grant_block, first_day, last_day, read_grant, read_block, read_grants, read_ledger, read_book};
 ghost use Rattle.refusals.specs.Results.{reading_of, done};
 ghost use Rattle.ledgers.specs.Forms.{term_form};
-ghost use Rattle.ledgers.specs.Places.{block_place, p_place, q_place, label_place, days_place};
+ghost use Rattle.ledgers.specs.Places.{block_place};
 ghost use Rattle.ledgers.specs.Readings.{days_reading, sizes, book_sizes};
 
 use fields::TermField;
@@ -181,29 +181,4 @@ pub fn block_place(k: usize) -> usize
     ensures { result ≡ block_place k }
 {
     512 * (k.min(64) + 1)
-}
-
-// And where its terms and its days begin.
-pub fn p_place(k: usize) -> usize
-    ensures { result ≡ p_place k }
-{
-    block_place(k) + P.at
-}
-
-pub fn q_place(k: usize) -> usize
-    ensures { result ≡ q_place k }
-{
-    block_place(k) + Q.at
-}
-
-pub fn label_place(k: usize) -> usize
-    ensures { result ≡ label_place k }
-{
-    block_place(k) + LABEL.at
-}
-
-pub fn days_place(k: usize) -> usize
-    ensures { result ≡ days_place k }
-{
-    block_place(k) + DAYS
 }

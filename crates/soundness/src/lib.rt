@@ -16,12 +16,12 @@ use words::{Row, Rows, Side};
 pub fn broken(ledger: &[u8], k: usize, g: u64, of: Rows) -> Rows
     ensures { (f : Marks) → RowsAt f g of → RowsAt (λ s c. f s c && breaks (marks_of (grant_in ledger.now k)) s c) g result }
 {
-    let p = words::hold(ledger, ledgers::p_place(k), g).rows;
+    let p = words::hold(ledger, ledgers::block_place(k) + ledgers::P.at, g).rows;
     let holding = words::each_side(of, p, words::both);
     if words::none(holding) {
         return holding;
     }
-    let q = words::hold(ledger, ledgers::q_place(k), g).rows;
+    let q = words::hold(ledger, ledgers::block_place(k) + ledgers::Q.at, g).rows;
     words::rest(holding, q)
 }
 
@@ -30,32 +30,6 @@ pub fn broken(ledger: &[u8], k: usize, g: u64, of: Rows) -> Rows
 struct Kept {
     tested: usize,
     rows: Rows,
-}
-
-// Tests the coalitions of two rows against the grants whose bits are set. Each is dropped at the first that it breaks, and the test ends where none is left.
-fn test_rows(ledger: &[u8], grants: usize, chosen: u64, g: u64, of: Rows) -> Kept
-    ensures { (f : Marks) → RowsAt f g of → TestedTo ledger.now grants chosen f g result }
-{
-    let mut rows = of;
-    let mut tested: usize = 0;
-    for k in 0..grants {
-        if words::none(rows) {
-            return Kept { tested, rows };
-        }
-        if words::bit_set(chosen, k) {
-            rows = words::rest(rows, broken(ledger, k, g, rows));
-            tested += 1;
-        }
-    }
-    Kept { tested, rows }
-}
-
-// Row g of the coalitions of n names that keep each grant whose bit is set: the sound ones, where these are the grants that count.
-pub fn sound_row(ledger: &[u8], n: u64, grants: usize, chosen: u64, g: u64) -> Rows
-    ensures { RowsAt (λ s. mark n (sound_in ledger.now grants chosen s)) g result }
-{
-    let all = words::alike(words::low_row(n, g));
-    test_rows(ledger, grants, chosen, g, all).rows
 }
 
 // Word w of the coalition c alone.
@@ -104,13 +78,49 @@ pub struct Tested {
     pub tested: usize,
 }
 
-// Tests a coalition on a side against the grants whose bits are set, up to the first that it breaks there (document 02, K3).
-pub fn test_coalition(ledger: &[u8], grants: usize, chosen: u64, side: Side, c: u64) -> Tested
-    ensures { tested_of result ≡ test_in ledger.now grants chosen (side_of side) c }
-{
-    let kept = test_rows(ledger, grants, chosen, c / 256, only(side, c));
-    Tested {
-        sound: !words::none(kept.rows),
-        tested: kept.tested,
+// A ledger of so many grants, of which those whose bits are set are kept.
+#[derive(Clone, Copy)]
+pub struct Chosen<'a> {
+    pub ledger: &'a [u8],
+    pub grants: usize,
+    pub bits: u64,
+}
+
+impl Chosen<'_> {
+    // Tests the coalitions of two rows against these grants. Each is dropped at the first that it breaks, and the test ends where none is left.
+    fn test_rows(&self, g: u64, of: Rows) -> Kept
+        ensures { (f : Marks) → RowsAt f g of → TestedTo self.now.ledger.now self.now.grants self.now.bits f g result }
+    {
+        let mut rows = of;
+        let mut tested: usize = 0;
+        for k in 0..self.grants {
+            if words::none(rows) {
+                return Kept { tested, rows };
+            }
+            if words::bit_set(self.bits, k) {
+                rows = words::rest(rows, broken(self.ledger, k, g, rows));
+                tested += 1;
+            }
+        }
+        Kept { tested, rows }
+    }
+
+    // Row g of the coalitions of n names that keep each of these grants: the sound ones, where these are the grants that count.
+    pub fn sound_row(&self, n: u64, g: u64) -> Rows
+        ensures { RowsAt (λ s. mark n (sound_in self.now.ledger.now self.now.grants self.now.bits s)) g result }
+    {
+        let all = words::alike(words::low_row(n, g));
+        self.test_rows(g, all).rows
+    }
+
+    // Tests a coalition on a side against these grants, up to the first that it breaks there (document 02, K3).
+    pub fn test_coalition(&self, side: Side, c: u64) -> Tested
+        ensures { tested_of result ≡ test_in self.now.ledger.now self.now.grants self.now.bits (side_of side) c }
+    {
+        let kept = self.test_rows(c / 256, only(side, c));
+        Tested {
+            sound: !words::none(kept.rows),
+            tested: kept.tested,
+        }
     }
 }

@@ -13,7 +13,7 @@ ghost use Rattle.trials.specs.Figures.{sum_number, tested_reading, test_on, side
 
 use counting::Asked;
 use refusals::Refusal;
-use soundness::Tested;
+use soundness::{Chosen, Tested};
 use words::Side;
 
 // Reads a text to codes in a job of n names.
@@ -71,8 +71,12 @@ fn test_on(
         label,
         day,
     };
-    let counted = asked.counted();
-    Ok(soundness::test_coalition(ledger, sizes.grants, counted, side, coalition))
+    let chosen = Chosen {
+        ledger,
+        grants: sizes.grants,
+        bits: asked.counted(),
+    };
+    Ok(chosen.test_coalition(side, coalition))
 }
 
 // Sound is kind 0 and broken kind 1; the figure is how many grants were tested.

@@ -58,5 +58,5 @@ returns c =
     let n = c.in_ok-book.book.names in
     table-written a.ledger.now a.label.now a.day a.buffer.now (real s) (fits s) b.book (under n b.L a.day) _ (b.is a.day)
     (halves_table c.mark_sound.ensures
-    ∙ table_cong _ _ _ (λ s d _. sound-counted _ _ _ _ _ _ _ b.L b.of b.label_is c.counted-counted.ensures s d)
+    ∙ table_cong _ _ _ (λ s d _. sound-counted _ _ _ _ _ _ _ b.L b.of b.label_is c.counted.ensures s d)
     ∙ ap (λ (m : ℕ). table m (sound_under b.book (under n b.L a.day))) b.of.names)

@@ -30,7 +30,7 @@ pub loop-g-preserved : goal.loop-g-preserved
 loop-g-preserved c =
     let l = c.loop-g in
     let a = c.args in
-    let S = sound_in a.ledger.now a.grants a.chosen in
+    let S = sound_in a.chosen.now.ledger.now a.chosen.now.grants a.chosen.now.bits in
     let h = few (goal.at.loop-g-preserved c).In-loop-g in (
       (
         turn_length l.see c.put_row.new.half l.g c.sound_row-sound.result.see h c.put_row.ensures l.invariant.0.0,

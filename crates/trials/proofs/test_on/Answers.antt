@@ -27,9 +27,9 @@ book_of c = accepted_book _ _ c.args.day _ (c.read_book.ensures c.args.day) _ c.
 pub returns-clause-said : goal.returns-clause-said
 returns-clause-said c =
     let p = goal.at.returns-clause-said c in
-    tested_on _ _ _ _ _ (real p.Else-not-real_date) _ _ _ (book_of p.In_ok-sizes) _ c.counted-counted.ensures c.test_coalition.ensures
+    tested_on _ _ _ _ _ (real p.Else-not-real_date) _ _ _ (book_of p.In_ok-sizes) _ c.counted.ensures c.test_coalition.ensures
 
 pub returns-clause-few : goal.returns-clause-few
 returns-clause-few c =
     let p = goal.at.returns-clause-few c in
-    tested_fits _ _ _ _ _ (real p.Else-not-real_date) _ _ _ (book_of p.In_ok-sizes) _ c.counted-counted.ensures c.test_coalition.ensures
+    tested_fits _ _ _ _ _ (real p.Else-not-real_date) _ _ _ (book_of p.In_ok-sizes) _ c.counted.ensures c.test_coalition.ensures

@@ -3,8 +3,8 @@ use Prim.Native.Nat.{◌≤◌}
 use Rattle.model.specs.Coalitions.{Marks}
 use Rattle.words.specs.FourWords.{RowsAt}
 use Rattle.soundness.specs.Testing.{TestedTo}
-use Rattle.soundness.proofs.test_rows.Given as goal
+use Rattle.soundness.proofs.Chosen.test_rows.Given as goal
 
 abbrev pub invariant-loop-k : goal.invariant-loop-k
 invariant-loop-k l =
-    (l.tested ≤ l.k) × ((f : Marks) → RowsAt f l.g l.initial.rows → TestedTo l.ledger l.k l.chosen f l.g (record { tested = l.tested; rows = l.rows }))
+    (l.tested ≤ l.k) × ((f : Marks) → RowsAt f l.g l.initial.rows → TestedTo l.self.ledger.now l.k l.self.bits f l.g (record { tested = l.tested; rows = l.rows }))

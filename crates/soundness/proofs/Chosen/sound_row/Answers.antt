@@ -2,7 +2,7 @@ use Prim.Native.Nat.{◌^◌}
 use lib.Dec.{ltb}
 use Rattle.model.specs.Coalitions.{mark}
 use Rattle.words.proofs.FourWords.{rows_of}
-use Rattle.soundness.proofs.sound_row.Goals as goal
+use Rattle.soundness.proofs.Chosen.sound_row.Goals as goal
 
 pub returns : goal.returns
 unfolding mark

@@ -28,7 +28,8 @@ fn breaking(ledger: &[u8], n: u64, k: usize, g: u64) -> Rows
     soundness::broken(ledger, k, g, all)
 }
 
-// What is done to the number of each coalition that breaks a grant.
+// What is done to the number of each coalition that breaks a grant. Its methods are inlined: where a grant is counted in or out it is known which, so that no row
+// is asked (a withdrawal takes 1.01 to 1.19 times as many instructions else).
 #[derive(Clone, Copy)]
 enum Step {
     // 1 more.
@@ -39,6 +40,7 @@ enum Step {
 
 impl Step {
     // Is done to each number of a row that is marked.
+    #[inline(always)]
     fn row(self, numbers: &mut [u64; 896], row: usize, marked: Row)
         ensures { RowStepped self numbers.old row marked numbers.new }
     {
@@ -49,6 +51,7 @@ impl Step {
     }
 
     // Is done to each coalition of n names that breaks grant k, on each side.
+    #[inline(always)]
     fn grant(self, numbers: &mut [u64; 896], ledger: &[u8], n: u64, k: usize)
         ensures { Steps self n (breaks (marks_of (grant_in ledger.now k))) numbers.old numbers.new }
     {
@@ -61,6 +64,7 @@ impl Step {
     }
 
     // The same, if the grant counts under the label on the day.
+    #[inline(always)]
     fn counting(
         self,
         numbers: &mut [u64; 896],

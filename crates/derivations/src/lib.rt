@@ -173,6 +173,7 @@ fn read_step(step: &[u8; 136], n: u64) -> Result<Rule, StepRefusal>
 }
 
 // A premise that the rule uses is a step before step k.
+// Kept: whether it is used stands beside the byte, since a step has the byte in any case; an Option of it was no plainer.
 fn earlier(used: bool, premise: u8, k: usize) -> bool
     ensures { result ≡ before used premise k }
 {

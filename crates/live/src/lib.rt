@@ -14,8 +14,10 @@ ghost use Rattle.live.specs.Held.{live_of, Holds, Stepped, Unaltered, Made};
 use counting::Asked;
 use questions::{Refuter, Relation};
 use refusals::Refusal;
+use stored::Step;
 
 // The head of a live ledger.
+// Kept: C keeps the head, and lends bytes and numbers one by one.
 #[derive(Clone, Copy, Debug, PartialEq, Eq)]
 pub struct Live {
     pub names: u8,
@@ -100,7 +102,7 @@ pub fn add(
         label: live.label(),
         day: live.day,
     };
-    stored::count_in(numbers, &asked, live.held);
+    Step::Raise.counting(numbers, &asked, live.held);
     Ok(Live {
         held: live.held + 1,
         ..live
@@ -129,7 +131,7 @@ pub fn withdraw(
         label: live.label(),
         day: live.day,
     };
-    stored::count_out(numbers, &asked, k);
+    Step::Lower.counting(numbers, &asked, k);
     blocks::remove(ledger, live.names, live.held, k);
     Ok(Live {
         held: live.held - 1,
@@ -154,6 +156,7 @@ fn ask(
 }
 
 // Does p act for q?
+// Kept: C has a call for each of the two questions.
 #[tactic(auto, unfolding(model::specs::Live::step))]
 pub fn acts_for(
     live: Live,

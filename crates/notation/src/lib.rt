@@ -22,6 +22,7 @@ enum Ending {
     Other,
 }
 
+// Kept: text, place and scratch are passed one by one, and not in a reader that moves on, which would have read half where there is no text.
 // What is read off the end of a text: how many characters are left before it, and where its codes start.
 #[derive(Clone, Copy, Debug, PartialEq, Eq)]
 struct Part {

@@ -264,6 +264,7 @@ fn ask(
 }
 
 // Does p act for q under the label, on the day?
+// Kept: C has a call for each of the two questions.
 pub fn acts_for(
     ledger: &[u8],
     p: &[u8],

@@ -69,6 +69,7 @@ fn checked_number(checked: Result<(), DerivationRefusal>) -> u32
 }
 
 // Does p act for q under the label, on the day?
+// Kept: C has a call for each of the two questions.
 pub fn rights_acts_for(ledger: &[u8], p: &[u8], q: &[u8], label: &[u8], day: u32) -> u32
     ensures { result ≡ number (acts_for ledger.now p.now q.now label.now day) }
 {

@@ -44,6 +44,7 @@ fn code_then_two(s: &[u8], code: u8, a: &[u8], b: &[u8]) -> bool
 }
 
 // A step's p and its q, parts of the step.
+// Kept: the two are named as document 01 names them.
 pub fn left(step: &[u8]) -> &[u8]
     ensures { result.now ≡ left step.now }
 {

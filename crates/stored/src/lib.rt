@@ -11,7 +11,7 @@ ghost use Rattle.words.specs.FourWords.{RowsAt};
 ghost use Rattle.words.specs.Evaluation.{job_of};
 ghost use Rattle.counting.specs.Counted.{grant_in};
 ghost use Rattle.questions.specs.Searching.{verdict_of, judge_of};
-ghost use Rattle.stored.specs.Stored.{of_job, more, Stored, Small, RowStepped, Steps, SoundStored, under_asked};
+ghost use Rattle.stored.specs.Stored.{of_job, Stored, Small, RowStepped, Steps, SoundStored, under_asked};
 
 use counting::Asked;
 use questions::{Refuter, Relation, Sieve};
@@ -29,9 +29,10 @@ fn breaking(ledger: &[u8], n: u64, k: usize, g: u64) -> Rows
     soundness::broken(ledger, k, g, all)
 }
 
-// What is done to the number of each coalition that breaks a grant.
-#[derive(Clone, Copy)]
-enum Step {
+// What is done to the number of each coalition that breaks a grant. Its methods are inlined: where a grant is added or withdrawn it is known which, so that no
+// row is asked.
+#[derive(Clone, Copy, Debug, PartialEq, Eq)]
+pub enum Step {
     // 1 more.
     Raise,
     // 1 less.
@@ -40,6 +41,7 @@ enum Step {
 
 impl Step {
     // Is done to each number of a row that is marked.
+    #[inline(always)]
     fn row(self, numbers: &mut [u64; 896], row: usize, marked: Row)
         ensures { RowStepped self numbers.old row marked numbers.new }
     {
@@ -50,6 +52,7 @@ impl Step {
     }
 
     // Is done to each coalition of n names that breaks grant k, on each side.
+    #[inline(always)]
     fn grant(self, numbers: &mut [u64; 896], ledger: &[u8], n: u64, k: usize)
         ensures { Steps self n (breaks (marks_of (grant_in ledger.now k))) numbers.old numbers.new }
     {
@@ -61,28 +64,15 @@ impl Step {
         }
     }
 
-    // The same, if the grant counts under the label on the day.
-    fn counting(self, numbers: &mut [u64; 896], asked: &Asked<'_>, k: usize)
+    // The same, if the grant counts under the label on the day: its part is added, or taken away.
+    #[inline(always)]
+    pub fn counting(self, numbers: &mut [u64; 896], asked: &Asked<'_>, k: usize)
         ensures { Steps self asked.now.names (breaks_counting (under_asked asked.now) (grant_in asked.now.ledger.now k)) numbers.old numbers.new }
     {
         if asked.counts(k) {
             self.grant(numbers, asked.ledger, asked.names, k);
         }
     }
-}
-
-// Grant k's part is added, if it counts under the label on the day.
-pub fn count_in(numbers: &mut [u64; 896], asked: &Asked<'_>, k: usize)
-    ensures { (f : Numbers) → Stored asked.now.names numbers.old f → Stored asked.now.names numbers.new (more f (breaks_counting (under_asked asked.now) (grant_in asked.now.ledger.now k))) }
-{
-    Step::Raise.counting(numbers, asked, k);
-}
-
-// And taken away, if it counts.
-pub fn count_out(numbers: &mut [u64; 896], asked: &Asked<'_>, k: usize)
-    ensures { (f : Numbers) → Stored asked.now.names numbers.old (more f (breaks_counting (under_asked asked.now) (grant_in asked.now.ledger.now k))) → Stored asked.now.names numbers.new f }
-{
-    Step::Lower.counting(numbers, asked, k);
 }
 
 // All numbers become 0.

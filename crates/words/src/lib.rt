@@ -452,6 +452,7 @@ pub fn evaluate(codes: &[u8], n: u64, see: &mut [u64; 64], change: &mut [u64; 64
 }
 
 // The number of the lowest bit that is set; 64 where none is.
+// Kept: the callers ask of words that have a bit, and an Option would be taken apart for nothing.
 pub fn lowest(x: u64) -> u64
     ensures { LowestBit x result }
 {

@@ -53,6 +53,7 @@ fn right_rank(joiner: Joiner) -> u8
 }
 
 // Where writing stands: the next code, and the next character.
+// Kept: codes, text and their places are passed one by one: the readers of the promises find each in the clauses.
 #[derive(Clone, Copy, Debug, PartialEq, Eq)]
 struct Place {
     next: usize,

@@ -200,6 +200,7 @@ fn unpack(packed: &[u8], to: &mut [u8]) -> Option<usize>
 {
     let mut rest = packed;
     let mut made: usize = 0;
+    // Kept: a run tells how long it is only once it is read, so what goes on is what is left of the bytes.
     while !rest.is_empty() {
         let run = unpack_run(rest, &mut to[made..])?;
         rest = &rest[run.packed..];
@@ -391,6 +392,7 @@ impl Held {
     // Makes all calls, each on what those before it left.
     fn calls_agree(&mut self, calls: &[u8]) -> bool {
         let mut rest = calls;
+        // Kept: a call tells how long it is only once it is read.
         while !rest.is_empty() {
             let Some(later) = self.first_agrees(rest) else {
                 return false;
@@ -456,6 +458,7 @@ struct Room {
 // Reads until the part is full or the file ends, and gives how many bytes came.
 fn read_full<R: Read>(reader: &mut R, part: &mut [u8]) -> io::Result<usize> {
     let mut got: usize = 0;
+    // Kept: a read gives as many bytes as it likes.
     while got < part.len() {
         let more = reader.read(&mut part[got..])?;
         if more == 0 {

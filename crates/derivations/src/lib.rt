@@ -64,6 +64,7 @@ impl Rule {
     }
 
     // Which of bytes 1, 2 and 3 the rule uses: the first premise, the second, the grant.
+    // Kept: three questions, since each is asked alone.
     fn uses_first(self) -> bool
         ensures { result ≡ (uses_of (rule_is self)).first }
     {

@@ -6,9 +6,11 @@ ghost use Rattle.model.specs.Bytes.{same};
 ghost use Rattle.model.specs.Ledgers.{Ledger};
 ghost use Rattle.model.specs.Terms.{project_code};
 ghost use Rattle.model.specs.Derivations.{left, right, transitive, conjunction, disjunction, projection, meets};
+ghost use Rattle.terms.specs.Joiners.{joiner_code};
 ghost use Rattle.words.specs.FourWords.{side_of};
 
 use fields::TermField;
+use terms::Joiner;
 use words::Side;
 
 // Where a step's p and its q stand.
@@ -103,10 +105,10 @@ impl<'a> Terms<'a> {
 }
 
 // Rules 4 and 5: on the right the whole is a code, then the premises' terms in order; on the left both are the whole's.
-fn joins(code: u8, whole: Terms<'_>, a: Terms<'_>, b: Terms<'_>) -> bool
-    ensures { result ≡ (same whole.entry.right.now (code ∷ a.entry.right.now ++ b.entry.right.now) && (same a.entry.left.now whole.entry.left.now && same b.entry.left.now whole.entry.left.now)) }
+fn joins(joiner: Joiner, whole: Terms<'_>, a: Terms<'_>, b: Terms<'_>) -> bool
+    ensures { result ≡ (same whole.entry.right.now (joiner_code joiner ∷ a.entry.right.now ++ b.entry.right.now) && (same a.entry.left.now whole.entry.left.now && same b.entry.left.now whole.entry.left.now)) }
 {
-    code_then_two(whole.right, code, a.right, b.right)
+    code_then_two(whole.right, joiner.code(), a.right, b.right)
         && same(a.left, whole.left)
         && same(b.left, whole.left)
 }
@@ -116,7 +118,7 @@ fn joins(code: u8, whole: Terms<'_>, a: Terms<'_>, b: Terms<'_>) -> bool
 pub fn conjunction(step: &[u8], a: &[u8], b: &[u8]) -> bool
     ensures { (l : Ledger) → result ≡ meets l conjunction step.now a.now b.now }
 {
-    joins(0x30, Terms::of(step), Terms::of(a), Terms::of(b))
+    joins(Joiner::Both, Terms::of(step), Terms::of(a), Terms::of(b))
 }
 
 // Rule 5: p is 31, then their left terms in order; both right terms are q.
@@ -125,7 +127,7 @@ pub fn disjunction(step: &[u8], a: &[u8], b: &[u8]) -> bool
     ensures { (l : Ledger) → result ≡ meets l disjunction step.now a.now b.now }
 {
     joins(
-        0x31,
+        Joiner::Either,
         Terms::of(step).swapped(),
         Terms::of(a).swapped(),
         Terms::of(b).swapped(),

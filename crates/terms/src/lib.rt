@@ -108,6 +108,7 @@ fn read_part(codes: &[u8], at: usize, n: u64) -> Result<usize, TermRefusal>
     ensures { term_reading result ≡ part_at codes.now at n }
 {
     let mut here = at;
+    // Kept: the place goes on by a whole part, not by one code.
     while here < codes.len() {
         match shape_of(codes[here], n) {
             Shape::Whole => return Ok(here + 1),

@@ -22,7 +22,6 @@ enum Ending {
     Other,
 }
 
-// Kept: text, place and scratch are passed one by one, and not in a reader that moves on, which would have read half where there is no text.
 // What is read off the end of a text: how many characters are left before it, and where its codes start.
 #[derive(Clone, Copy, Debug, PartialEq, Eq)]
 struct Part {
@@ -47,13 +46,8 @@ fn ending_of(c: u8, n: u64) -> Ending
         b'>' => Ending::Sign(0x40),
         b'<' => Ending::Sign(0x41),
         b')' => Ending::Closing,
-        _ => {
-            if b'a' <= c && c - b'a' < 12 && ((c - b'a') as u64) < n {
-                Ending::Sole(c - b'a')
-            } else {
-                Ending::Other
-            }
-        }
+        b'a'..=b'l' if ((c - b'a') as u64) < n => Ending::Sole(c - b'a'),
+        _ => Ending::Other,
     }
 }
 
@@ -91,6 +85,7 @@ fn read_number(text: &[u8], end: usize) -> Option<Numeral>
     })
 }
 
+// Kept: n and the text in one value would take one parameter of six from the readers below, and two words more in each of their clauses.
 // Ends the reading of `many` places, whose codes start at `to`. Their opening bracket stands behind the first `end` characters: where a number stands before it
 // they are those of a quorum, and k, m and its code are put before theirs; otherwise it is one place, a text in brackets.
 fn read_opening(
@@ -131,8 +126,8 @@ fn read_opening(
     })
 }
 
-// Reads the rest of a text in brackets, or of a quorum, of which `many` places are read already: the either-list that the first `end` characters end with is one
-// more, and before it stands a comma, or the opening bracket.
+// Reads the rest of a text in brackets, or of a quorum, of which `many` places are read already: the either-list that the first `end` characters end with is
+// one more, and before it stands a comma, or the opening bracket.
 #[cycle(read_atom_read_last_read_list_read_places)]
 fn read_places(
     n: u64,
@@ -230,8 +225,8 @@ fn read_list(
     })
 }
 
-// Takes n, a text and a buffer of 64 bytes, for its codes, and gives how many they are. They are read into a scratch, which has a byte for each character, so that
-// a refused text leaves the buffer as it was. Later bytes keep their content.
+// Takes n, a text and a buffer of 64 bytes, for its codes, and gives how many they are. They are read into a scratch, which has a byte for each character, so
+// that a refused text leaves the buffer as it was. Later bytes keep their content.
 pub fn read_text(n: u64, text: &[u8], codes: &mut [u8]) -> Result<usize, Refusal>
     ensures { outcome_of result codes.new ≡ read_text n text.now codes.old }
 {

@@ -1,7 +1,7 @@
 // Acts-for and flows-to questions (document 01), on a day (document 02, K2): the coalitions that refute, the first of them, and the answer.
 #![tactic(auto)]
 
-ghost use Rattle.std.specs.Prelude.{◌≡◌, Some, ◌&&◌, ◌≤◌, ◌<◌};
+ghost use Rattle.std.specs.Prelude.{◌≡◌, IfSome, ◌&&◌, ◌≤◌, ◌<◌};
 ghost use Rattle.model.specs.Coalitions.{Marks, implies};
 ghost use Rattle.model.specs.Grants.{marks_of, keeps, acts_statically};
 ghost use Rattle.model.specs.Questions.{ask, acts_for, flows_to};
@@ -67,7 +67,7 @@ fn opposed(relation: Relation, n: u64, p: &[u8], q: &[u8], g: u64) -> Rows
 // The number of the lowest coalition of a row, counted from the row's first.
 fn lowest_in(row: Row) -> Option<u64>
     ensures found { found_at result ≡ lowest_in row }
-    ensures small { (j : _) → result ≡ Some j → j ≤ 256 }
+    ensures small { IfSome result (λ j. j ≤ 256) }
 {
     if row.a != 0 {
         Some(words::lowest(row.a))
@@ -187,7 +187,7 @@ fn sift_grant(asked: &Asked<'_>, k: usize, g: u64, of: Sifted) -> Sifted
 }
 
 // Takes away those that break a counting grant. It ends where none is left.
-fn sift(asked: &Asked<'_>, g: u64, of: Sifted) -> Sifted
+fn sift_grants(asked: &Asked<'_>, g: u64, of: Sifted) -> Sifted
     ensures { asked.now.grants ≤ 64 → (f : Marks) → SiftedTo (counts_asked asked.now) f g of → SiftedTo (counts_asked asked.now) (λ s c. f s c && sound_asked asked.now s c) g result }
 {
     let mut sifted = of;
@@ -211,7 +211,7 @@ impl Sieve for Grants<'_> {
     ghost keeps = { λ it S. SoundAsked it.asked it.known S };
 
     fn sift(&mut self, g: u64, of: Rows) -> Rows {
-        let sifted = sift(
+        let sifted = sift_grants(
             &self.asked,
             g,
             Sifted {

@@ -32,8 +32,8 @@ fn less_word(marks: &[u64], i: u64, w: u64) -> u64
     }
 }
 
-// Kept: that n is 12 at most stands in three contracts, here and below: a type for it would be made once and taken apart at once.
 // The minimal coalitions of word w. A term is monotone in the coalition, so that one member less is all there is to try.
+// Kept: that n is 12 at most stands in three contracts, here and below: a type for it would be made once and taken apart at once.
 fn minimal_word(marks: &[u64], n: u64, w: u64) -> u64
     requires { (n ≤ 12) × (w < length marks.now) }
     ensures { result ≡ packed (irredundant n (marked marks.now)) (64 * w) 64 }

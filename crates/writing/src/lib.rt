@@ -42,24 +42,14 @@ fn mark_of(code: u8) -> Mark
     }
 }
 
-// The rank that the right part of a list may have: its left part may have the list's own.
-fn right_rank(joiner: Joiner) -> u8
-    ensures { result ≡ join_rank (kind joiner) - 1 }
-{
-    match joiner {
-        Joiner::Both => 0,
-        Joiner::Either => 1,
-    }
-}
-
 // Where writing stands: the next code, and the next character.
-// Kept: codes, text and their places are passed one by one: the readers of the promises find each in the clauses.
 #[derive(Clone, Copy, Debug, PartialEq, Eq)]
 struct Place {
     next: usize,
     to: usize,
 }
 
+// Kept: codes and text in a writer, with their places, would be named as often in the functions below, and longer in their clauses.
 // Puts the bracket c at `to` if a list of rank `own` needs it, where only ranks up to `rank` stand without. The result is the place after it.
 fn put_bracket(c: u8, own: u8, rank: u8, text: &mut [u8], to: usize) -> usize
     requires { to + length (bracketed c own rank) ≤ length text.old }
@@ -162,7 +152,8 @@ fn write_part(codes: &[u8], at: usize, rank: u8, text: &mut [u8], to: usize) -> 
             let left = write_part(codes, at + 1, own, text, first);
             let middle = left.to;
             text[middle] = joiner.mark();
-            let right = write_part(codes, left.next, right_rank(joiner), text, middle + 1);
+            // A list of the same joiner on the right is in brackets.
+            let right = write_part(codes, left.next, joiner.rank() - 1, text, middle + 1);
             let end = put_bracket(b')', own, rank, text, right.to);
             Place {
                 next: right.next,

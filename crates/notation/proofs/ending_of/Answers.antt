@@ -27,8 +27,8 @@ pub returns-in-41 : goal.returns-in-41
 unfolding last_of term codes
 returns-in-41 c = rw c.in-41.is
 
-pub returns-then-c-n : goal.returns-then-c-n
+pub returns-in-97-to-108 : goal.returns-in-97-to-108
 unfolding term codes
-returns-then-c-n c =
+returns-in-97-to-108 c =
     let a = c.args in
     rw (last_plain c.args.n c.args.c (λ e. omega arith) (λ e. omega arith) (λ e. omega arith) (λ e. omega arith) (λ e. omega arith), le-leb 0x61 a.c (omega arith), lt-ltb (a.c - 0x61) 12 (omega arith), lt-ltb (a.c - 0x61) a.n (omega arith))

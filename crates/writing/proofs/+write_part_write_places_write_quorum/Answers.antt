@@ -1,5 +1,5 @@
 -- Each return is a law of `proofs/Parts.antt`, those of a quorum of `proofs/Quorums.antt`.
-use Rattle.std.proofs.Common.{◌≡◌, ◌+◌, ◌-◌, ◌<◌, ◌≤◌, ℕ, true, ◌&&◌, ltb, length, drop, get_or, refl, sym, ◌∙◌, arith}
+use Rattle.std.proofs.Common.{◌≡◌, ap, ◌+◌, ◌-◌, ◌<◌, ◌≤◌, ℕ, true, ◌&&◌, ltb, length, drop, get_or, refl, sym, ◌∙◌, arith}
 use borrow.Author.Tests.{ltb-true}
 use Rattle.model.specs.Terms.{quorum, quorate}
 use Rattle.model.specs.Texts.{joiner, join_rank}
@@ -58,12 +58,12 @@ write_part-bounds-text-middle t c =
 pub write_part-write_part-right-requires : goal.write_part-write_part-right-requires
 write_part-write_part-right-requires t c =
     let w = c.write_part-left.ensures in
-    (omega (arith, w.past, c.decreases), right_room _ _ _ c.args.text.now _ c.requires _ _ _ _ (joined t (goal.at.write_part-write_part-right-requires t c).In-Between _ _ _ _ c.mark.ensures c.rank-own.ensures c.right_rank.ensures w.past) _ _ c.put_bracket-first.ensures _ _ w)
+    (omega (arith, w.past, c.decreases), right_room _ _ _ c.args.text.now _ c.requires _ _ _ _ (joined t (goal.at.write_part-write_part-right-requires t c).In-Between _ _ _ _ c.mark.ensures c.rank-own.ensures (ap (λ (r : ℕ). r - 1) c.rank.ensures) w.past) _ _ c.put_bracket-first.ensures _ _ w)
 
 pub write_part-put_bracket-end-requires : goal.write_part-put_bracket-end-requires
 write_part-put_bracket-end-requires t c =
     let w = c.write_part-left.ensures in
-    close_room _ _ _ c.args.text.now _ c.requires _ _ _ _ (joined t (goal.at.write_part-put_bracket-end-requires t c).In-Between _ _ _ _ c.mark.ensures c.rank-own.ensures c.right_rank.ensures w.past) _ _ c.put_bracket-first.ensures _ _ w _ _ _ c.write_part-right.ensures
+    close_room _ _ _ c.args.text.now _ c.requires _ _ _ _ (joined t (goal.at.write_part-put_bracket-end-requires t c).In-Between _ _ _ _ c.mark.ensures c.rank-own.ensures (ap (λ (r : ℕ). r - 1) c.rank.ensures) w.past) _ _ c.put_bracket-first.ensures _ _ w _ _ _ c.write_part-right.ensures
 
 -- the code is a quorum's
 quorum_there : (t : ℕ) (c : write_part-In-Quorum t) → get_or c.args.codes.now c.args.at 0 ≡ 0x32
@@ -85,7 +85,7 @@ write_part-returns-in-Sign t c =
 pub write_part-returns-in-Between : goal.write_part-returns-in-Between
 write_part-returns-in-Between t c =
     let w = c.write_part-left.ensures in
-    joined_wrote _ _ _ c.args.text.now _ c.requires _ _ _ _ (joined t (goal.at.write_part-returns-in-Between t c).In-Between _ _ _ _ c.mark.ensures c.rank-own.ensures c.right_rank.ensures w.past) _ _ c.put_bracket-first.ensures _ _ w _ _ _ c.write_part-right.ensures _ _ c.put_bracket-end.ensures
+    joined_wrote _ _ _ c.args.text.now _ c.requires _ _ _ _ (joined t (goal.at.write_part-returns-in-Between t c).In-Between _ _ _ _ c.mark.ensures c.rank-own.ensures (ap (λ (r : ℕ). r - 1) c.rank.ensures) w.past) _ _ c.put_bracket-first.ensures _ _ w _ _ _ c.write_part-right.ensures _ _ c.put_bracket-end.ensures
 
 pub write_part-returns-in-Quorum : goal.write_part-returns-in-Quorum
 write_part-returns-in-Quorum t c =

@@ -6,5 +6,5 @@ use Rattle.questions.proofs.GrantsSieve.sift.Goals as goal
 
 pub returns : goal.returns
 returns c S f k h =
-    let s = c.sift-sifted.ensures k.few f (record { rows = h; so = k.so }) in
+    let s = c.sift_grants-sifted.ensures k.few f (record { rows = h; so = k.so }) in
     (rows_cong _ _ _ _ (λ s c _ _. ap (λ b. f s c && b) (sym (k.is s c))) s.rows, record { few = k.few; is = k.is; so = s.so })

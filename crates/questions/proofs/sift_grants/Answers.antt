@@ -2,7 +2,7 @@ use native.Mathlib.Omega.{arith}
 use mathlib.Core.Path.{◌≡◌, sym, ◌∙◌}
 use Rattle.soundness.proofs.Steps.{keep_none, keep_empty}
 use Rattle.questions.proofs.Sifting.{sift_more}
-use Rattle.questions.proofs.sift.Goals as goal
+use Rattle.questions.proofs.sift_grants.Goals as goal
 
 pub loop-k-init : goal.loop-k-init
 loop-k-init c = (omega arith, λ b f h. record { rows = keep_none _ _ f _ _ h.rows; so = h.so })

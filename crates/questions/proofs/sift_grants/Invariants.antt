@@ -4,7 +4,7 @@ use Rattle.model.specs.Coalitions.{Marks}
 use Rattle.counting.specs.Counted.{counted_in}
 use Rattle.soundness.proofs.Steps.{keep_first}
 use Rattle.questions.specs.Sieving.{SiftedTo, counts_asked}
-use Rattle.questions.proofs.sift.Given as goal
+use Rattle.questions.proofs.sift_grants.Given as goal
 
 abbrev pub invariant-loop-k : goal.invariant-loop-k
 invariant-loop-k l =

@@ -182,3 +182,11 @@ pub fn block_place(k: usize) -> usize
 {
     512 * (k.min(64) + 1)
 }
+
+// Where the field of a term of grant k begins in a ledger.
+pub fn term_place(k: usize, term: TermField) -> usize
+    requires { term.at ≤ 512 }
+    ensures { result ≡ block_place k + term.at }
+{
+    block_place(k) + term.at
+}

@@ -37,8 +37,7 @@ fn columns_weight(sums: &[u16; 16], runs: &[u16; 16]) -> u32
 
 // The sum of (i + 1) × byte i over a block's first 256 bytes: 16 rows of 16, from the last to the first. The sums of a column fit in
 // 16 bits, so that eight are made at a time.
-fn front_weight(block: &[u8]) -> u32
-    requires { 256 ≤ length block.now }
+fn front_weight(block: &[u8; 512]) -> u32
     ensures { result ≡ weighted 0 (take 256 block.now) }
 {
     let mut sums = [0u16; 16];
@@ -62,8 +61,7 @@ fn rest_weight(rest: &[u8]) -> u32
 }
 
 // The sum of (i + 1) × byte i over the 510 bytes before a block's check. Past byte 255 a block that is accepted has only filler.
-fn weight(block: &[u8]) -> u32
-    requires { 510 ≤ length block.now }
+fn weight(block: &[u8; 512]) -> u32
     ensures { result ≡ weighted 0 (take 510 block.now) }
 {
     let front = front_weight(block);
@@ -78,5 +76,8 @@ fn weight(block: &[u8]) -> u32
 pub fn block_check(block: &[u8]) -> bool
     ensures { result ≡ whole_checked block.now }
 {
-    block.len() == 512 && fields::two_bytes(block, 510) as u32 == weight(block) % 65521
+    let Ok(block) = <&[u8; 512]>::try_from(block) else {
+        return false;
+    };
+    fields::two_bytes(block, 510) as u32 == weight(block) % 65521
 }

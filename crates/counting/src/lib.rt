@@ -48,12 +48,12 @@ impl Asked<'_> {
         ensures { RowAt (bars_at self.now.ledger.now self.now.label.now k) g result }
     {
         let under = words::hold(self.label, 0, g).rows;
-        let own = words::hold(self.ledger, ledgers::block_place(k) + ledgers::LABEL.at, g).rows;
+        let own = words::hold(self.ledger, ledgers::term_place(k, ledgers::LABEL), g).rows;
         let unseen = words::without(under.see, own.see);
         if words::empty(own.change) {
             return unseen;
         }
-        let q = words::hold(self.ledger, ledgers::block_place(k) + ledgers::Q.at, g).rows;
+        let q = words::hold(self.ledger, ledgers::term_place(k, ledgers::Q), g).rows;
         let voice = words::both(q.see, q.change);
         let allowed = words::both(under.change, voice);
         words::either(unseen, words::without(own.change, allowed))
@@ -76,12 +76,8 @@ impl Asked<'_> {
         ensures { NeededOf self.now.ledger.now self.now.names k self.now.label.now result }
     {
         let asked = names_at(self.label, 0, 8);
-        let own = names_at(
-            self.ledger,
-            ledgers::block_place(k) + ledgers::LABEL.at,
-            asked,
-        );
-        let all = names_at(self.ledger, ledgers::block_place(k) + ledgers::Q.at, own);
+        let own = names_at(self.ledger, ledgers::term_place(k, ledgers::LABEL), asked);
+        let all = names_at(self.ledger, ledgers::term_place(k, ledgers::Q), own);
         self.names.min(all)
     }
 

@@ -3,11 +3,14 @@ use Prim.Native.Nat.{ℕ, suc, ◌+◌, ◌-◌, ◌≤◌, ◌<◌}
 use native.Mathlib.Nat.{sub-zero}
 use native.Mathlib.Numerals.{add-one}
 use native.Mathlib.Omega.{arith}
-use mathlib.Core.Path.{◌≡◌, refl, subst, ◌∙◌}
+use mathlib.Core.Path.{◌≡◌, refl, sym, subst, ◌∙◌}
 use mathlib.Core.Bool.{Bool, true, false, cond, not, ◌&&◌, ◌||◌}
 use mathlib.Core.List.{List, []}
 use lib.Dec.{eqb, ltb}
 use lib.ListN.{length}
+use Rattle.std.specs.Prelude.{Result, Ok, Err}
+use Rattle.std.specs.Result.{MatchResult, IsErrAnd}
+use Rattle.std.proofs.lemmas.Result.{err_from_is_err_and}
 use Rattle.model.specs.Bytes.{byte}
 use Rattle.model.specs.Coalitions.{member}
 use Rattle.model.specs.Readings.{Reading, accepted, refused, and_then, require, refused_as, is_accepted}
@@ -24,6 +27,10 @@ use Rattle.ledgers.specs.declared.Sizes.{Sizes}
 use Rattle.ledgers.proofs.Accepted.{AcceptedBook}
 use Rattle.counting.specs.Counted.{counted_in}
 use Rattle.counting.proofs.Accepted.{counted_in_lem}
+use Rattle.derivations.specs.declared.StepRefusal.{StepRefusal}
+use Rattle.derivations.specs.declared.DerivationRefusal.{DerivationRefusal}
+use Rattle.derivations.specs.declared.DerivationRefusal.TheVariants.{Step}
+use Rattle.derivations.specs.Answers.{step_reading, refusal_of}
 use Rattle.derivations.specs.Steps.{read_field, read_step, premises_before, grant_check, BookOf, Ready, check_at}
 
 -- ---- a step by itself
@@ -174,6 +181,27 @@ module _ (l : Ledger) (f : Grant → Bool) (d : List ℕ) where
   steps_end k h =
       let none : step_count d - k ≡ 0 = omega arith in
       rw none
+
+-- what the check of step k gives, a refusal with the step's number
+module _ (k : ℕ) (P : StepRefusal → DerivationRefusal → Type 0) (named : (why : StepRefusal) (y : DerivationRefusal) → P why y → y ≡ Step k why) (next : Answer) (r : Reading (Unit {0}))
+    (a : Result (Unit {0}) StepRefusal) (b : Result (Unit {0}) DerivationRefusal) (e : step_reading a ≡ r) (m : MatchResult a (λ x. b ≡ Ok x) (λ why. IsErrAnd b (P why))) where
+  pub step_stopped : (y : DerivationRefusal) → b ≡ Err y → refusal_of y ≡ on_step k r next
+  step_stopped y h = by a e m
+    where
+      by : (a : Result (Unit {0}) StepRefusal) → step_reading a ≡ r → MatchResult a (λ x. b ≡ Ok x) (λ why. IsErrAnd b (P why)) → refusal_of y ≡ on_step k r next
+      by (Ok v) e m = let z : Ok v ≡ Err y = sym m ∙ h in cc
+      by (Err why) e m =
+          let p = err_from_is_err_and b m in
+          let z : Err y ≡ Err p.0 = sym h ∙ p.1 in
+          let w : y ≡ p.0 = cc in
+          rw (w, named why p.0 p.2, ← e)
+
+  pub step_passed : (u : Unit {0}) → b ≡ Ok u → on_step k r next ≡ next
+  step_passed u h = by a e m
+    where
+      by : (a : Result (Unit {0}) StepRefusal) → step_reading a ≡ r → MatchResult a (λ x. b ≡ Ok x) (λ why. IsErrAnd b (P why)) → on_step k r next ≡ next
+      by (Ok v) e m = rw (← e)
+      by (Err why) e m = let p = err_from_is_err_and b m in let z : Ok u ≡ Err p.0 = sym h ∙ p.1 in cc
 
 -- ---- the whole check: the day, the ledger and the label, the length, the steps
 

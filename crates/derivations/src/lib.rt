@@ -45,6 +45,14 @@ enum Rule {
     Projection(Side),
 }
 
+// The bytes of a step that a rule uses: the first premise, the second, the grant.
+#[derive(Clone, Copy)]
+struct Uses {
+    first: bool,
+    second: bool,
+    grant: bool,
+}
+
 impl Rule {
     // The rules by their numbers, 1 to 7: the last two are one over the side.
     #[tactic(auto, unfolding(model::specs::Derivations::rule_of))]
@@ -63,27 +71,20 @@ impl Rule {
         }
     }
 
-    // Which of bytes 1, 2 and 3 the rule uses: the first premise, the second, the grant.
-    // Kept: three questions, since each is asked alone.
-    fn uses_first(self) -> bool
-        ensures { result ≡ (uses_of (rule_is self)).first }
+    // Which of bytes 1, 2 and 3 the rule uses.
+    fn uses(self) -> Uses
+        ensures first { result.first ≡ (uses_of (rule_is self)).first }
+        ensures second { result.second ≡ (uses_of (rule_is self)).second }
+        ensures grant { result.grant ≡ (uses_of (rule_is self)).grant }
     {
-        !matches!(self, Rule::Static | Rule::Granted)
-    }
-
-    fn uses_second(self) -> bool
-        ensures { result ≡ (uses_of (rule_is self)).second }
-    {
-        matches!(
-            self,
-            Rule::Transitive | Rule::Conjunction | Rule::Disjunction
-        )
-    }
-
-    fn uses_grant(self) -> bool
-        ensures { result ≡ (uses_of (rule_is self)).grant }
-    {
-        matches!(self, Rule::Granted)
+        Uses {
+            first: !matches!(self, Rule::Static | Rule::Granted),
+            second: matches!(
+                self,
+                Rule::Transitive | Rule::Conjunction | Rule::Disjunction
+            ),
+            grant: matches!(self, Rule::Granted),
+        }
     }
 }
 
@@ -126,9 +127,8 @@ impl StepRefusal {
 fn fields_form(rule: Rule, step: &[u8; 136]) -> bool
     ensures { result ≡ fields_form (rule_is rule) step.now }
 {
-    (rule.uses_first() || step[1] == 0)
-        && (rule.uses_second() || step[2] == 0)
-        && (rule.uses_grant() || step[3] == 0)
+    let uses = rule.uses();
+    (uses.first || step[1] == 0) && (uses.second || step[2] == 0) && (uses.grant || step[3] == 0)
 }
 
 // Bytes 6 and 7, and what is past the terms. A length over 64 has no filler.
@@ -148,11 +148,15 @@ fn step_form(rule: Rule, step: &[u8; 136]) -> bool
 
 // A term of a step, `why` being the refusal where it is none: its length is at most that of its field.
 #[tactic(auto, unfolding(crate::specs::Steps::read_field))]
-fn read_field(step: &[u8], term: TermField, n: u64, why: StepRefusal) -> Result<(), StepRefusal>
-    requires { term.length < length step.now }
+fn read_field(
+    step: &[u8; 136],
+    term: TermField,
+    n: u64,
+    why: StepRefusal,
+) -> Result<(), StepRefusal>
     ensures { step_reading result ≡ done (refused_as (step_number why) (read_field term.length term.at n step.now)) }
 {
-    if 64 < step[term.length] {
+    if step.get(term.length).is_some_and(|len| 64 < *len) {
         return Err(why);
     }
     terms::read_term(term.bytes(step), n).map_err(|_| why)
@@ -185,7 +189,8 @@ fn earlier(used: bool, premise: u8, k: usize) -> bool
 fn premises_before(rule: Rule, step: &[u8; 136], k: usize) -> bool
     ensures { result ≡ premises_before (rule_is rule) step.now k }
 {
-    earlier(rule.uses_first(), step[1], k) && earlier(rule.uses_second(), step[2], k)
+    let uses = rule.uses();
+    earlier(uses.first, step[1], k) && earlier(uses.second, step[2], k)
 }
 
 // The ledger of a derivation, once it is read, and which of its grants count: bit g says whether grant g does.
@@ -200,7 +205,7 @@ struct Book<'a> {
 fn check_grant(rule: Rule, step: &[u8; 136], book: Book<'_>) -> Result<(), StepRefusal>
     ensures { step_reading result ≡ grant_check (rule_is rule) step.now book.entry.sizes.grants book.entry.counted }
 {
-    if !rule.uses_grant() {
+    if !rule.uses().grant {
         return Ok(());
     }
     let grant = step[3] as usize;
@@ -277,9 +282,7 @@ fn check_steps(derivation: &[u8], book: Book<'_>) -> Result<(), DerivationRefusa
 {
     let steps = derivation.len() / 136;
     for k in 0..steps {
-        if let Err(why) = check_step(derivation, k, book) {
-            return Err(DerivationRefusal::Step(k as u8, why));
-        }
+        check_step(derivation, k, book).map_err(|why| DerivationRefusal::Step(k as u8, why))?;
     }
     Ok(())
 }
@@ -332,21 +335,16 @@ fn quoted<'a>(
     if (derivation.len() / 136) as u64 <= step {
         return None;
     }
-    let quoted = step_at(derivation, step as usize);
-    match Rule::of(quoted[0])? {
-        Rule::Granted => Some(ledgers::grant_block(ledger, quoted[3] as usize)),
+    let named = step_at(derivation, step as usize);
+    match Rule::of(named[0])? {
+        Rule::Granted => Some(ledgers::grant_block(ledger, named[3] as usize)),
         _ => None,
     }
 }
 
 // The same; an empty part where there is none.
-pub fn quote<'a, 'b>(
-    derivation: &'b [u8],
-    ledger: &'a [u8],
-    label: &[u8],
-    day: u32,
-    step: u64,
-) -> &'a [u8]
+// Kept: its promise is on bytes, of which a caller needs no more; `quoted` has the Option.
+pub fn quote<'a>(derivation: &[u8], ledger: &'a [u8], label: &[u8], day: u32, step: u64) -> &'a [u8]
     ensures { result.now ≡ quote derivation.now ledger.now label.now day step }
 {
     quoted(derivation, ledger, label, day, step).unwrap_or(&[])

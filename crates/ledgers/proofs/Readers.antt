@@ -1,18 +1,17 @@
 -- Laws of reading grants and ledgers, as the readers' results: one term, one grant and one test after another. Assumes nothing.
-use Prim.Native.Nat.{ℕ, suc, ◌+◌, ◌-◌, ◌*◌, ◌/◌, ◌≤◌, ◌<◌}
-use native.Mathlib.Omega.{arith}
-use mathlib.Core.Path.{◌≡◌, refl, ◌∙◌}
+use Prim.Native.Nat.{ℕ, suc, ◌+◌, ◌≤◌, ◌<◌}
+use mathlib.Core.Path.{◌≡◌, refl, sym, ◌∙◌}
 use mathlib.Core.Bool.{Bool, true, false, ◌&&◌}
 use mathlib.Core.List.{List, [], ◌∷◌}
-use lib.ListN.{length, drop, drop_of_length-le}
+use lib.ListN.{length, drop, get_or, drop_of_length-le}
 use lib.Seq.{drop-cons}
-use Rattle.model.specs.Bytes.{byte, field}
+use Rattle.std.proofs.Common.{add-one}
+use Rattle.model.specs.Bytes.{byte}
 use Rattle.model.specs.Readings.{Reading, accepted, refused, and_then, require, refused_as}
 use Rattle.model.specs.Terms.{Term, read_term}
 use Rattle.model.specs.Dates.{date_or_none, in_order}
 use Rattle.model.specs.Grants.{Grant}
 use Rattle.model.specs.Ledgers.{checked, header, grant_blocks, all_checked, header_form, grant_form, p_bytes, q_bytes, label_bytes, first_day, last_day, read_terms, read_days, read_grant, read_grants, ledger_length, read_ledger}
-use Rattle.model.proofs.Blocks.{length-grant_blocks, get_or-grant_blocks}
 use Rattle.model.proofs.Stands.{read_grants_lem}
 use Rattle.refusals.specs.Results.{done}
 use Rattle.ledgers.specs.Readings.{days_reading, sizes}
@@ -68,46 +67,29 @@ grants_cons n b bs = both (read_grant n b) (read_grants n bs)
     both (accepted g) (refused k) = refl
     both (refused k) rs = refl
 
-module _ (n : ℕ) (bytes : List ℕ) where
+module _ (n : ℕ) (grants : List (List ℕ)) (k : ℕ) (whole : Reading (Unit {0})) (w : done (read_grants n (drop k grants)) ≡ whole) where
   -- the answer for block k, a grant's, and those after it
-  pub grants_from : ℕ → Reading (Unit {0})
-  grants_from k = done (read_grants n (drop (k - 1) (grant_blocks bytes)))
+  more : k < length grants → whole ≡ then (done (read_grant n (get_or grants k []))) (done (read_grants n (drop (k + 1) grants)))
+  more h = sym w ∙ rw (drop-cons grants k [] h, add-one k) (grants_cons n (get_or grants k []) (drop (suc k) grants))
 
-  pub grants_start : grants_from 1 ≡ done (read_grants n (grant_blocks bytes))
-  unfolding grants_from
-  grants_start = refl
+  pub grants_stop : k < length grants → (r : ℕ) → refused r ≡ done (read_grant n (get_or grants k [])) → refused r ≡ whole
+  grants_stop h r e = rw (more h, ← e)
 
-  more : (k : ℕ) → 1 ≤ k → k < length bytes / 512 → grants_from k ≡ then (done (read_grant n (field (512 * k) 512 bytes))) (grants_from (k + 1))
-  unfolding grants_from
-  more k a b =
-      let long : k - 1 < length (grant_blocks bytes) = omega (arith, length-grant_blocks bytes) in
-      let next : k + 1 - 1 ≡ suc (k - 1) = omega arith in
-      let at : 512 * (k - 1 + 1) ≡ 512 * k = omega arith in
-      rw (drop-cons (grant_blocks bytes) (k - 1) [] long, get_or-grant_blocks bytes (k - 1) [] long, at, next) (grants_cons n (field (512 * k) 512 bytes) (drop (suc (k - 1)) (grant_blocks bytes)))
+  pub grants_more : k < length grants → (u : Unit {0}) → accepted u ≡ done (read_grant n (get_or grants k [])) → done (read_grants n (drop (k + 1) grants)) ≡ whole
+  grants_more h u e = rw (more h, ← e)
 
-  module _ (k : ℕ) (block : List ℕ) (whole : Reading (Unit {0})) (a : 1 ≤ k) (b : k < length bytes / 512) (is : block ≡ field (512 * k) 512 bytes) (w : grants_from k ≡ whole) where
-    pub grants_stop : (r : ℕ) → refused r ≡ done (read_grant n block) → refused r ≡ whole
-    grants_stop r e = let f = rw is at e in rw (← w, more k a b, ← f)
-
-    pub grants_more : (u : Unit {0}) → accepted u ≡ done (read_grant n block) → grants_from (k + 1) ≡ whole
-    grants_more u e = let f = rw is at e in rw (← w, more k a b, ← f)
-
-  pub grants_end : (k : ℕ) → length bytes / 512 ≤ k → grants_from k ≡ accepted tt
-  unfolding grants_from read_grants
-  grants_end k h =
-      let past : length (grant_blocks bytes) ≤ k - 1 = omega (arith, length-grant_blocks bytes) in
-      rw (drop_of_length-le (grant_blocks bytes) {i = k - 1} past)
+  pub grants_end : length grants ≤ k → accepted tt ≡ whole
+  unfolding read_grants
+  grants_end h = let none = drop_of_length-le grants {i = k} h in rw none at w
 
 -- once the blocks and block 0 are accepted, the answer goes by the grants
 pub ledger_answer : (bytes : List ℕ) → ledger_length (length bytes) ≡ true → (checked (header bytes) && all_checked (grant_blocks bytes)) ≡ true
-    → header_form (length bytes / 512 - 1) (header bytes) ≡ true
-    → sizes (read_ledger bytes) ≡ then (done (read_grants (byte 1 bytes) (grant_blocks bytes))) (accepted (record { names = byte 1 bytes; grants = length bytes / 512 - 1 }))
+    → header_form (length (grant_blocks bytes)) (header bytes) ≡ true
+    → sizes (read_ledger bytes) ≡ then (done (read_grants (byte 1 bytes) (grant_blocks bytes))) (accepted (record { names = byte 1 bytes; grants = length (grant_blocks bytes) }))
 unfolding read_ledger
-ledger_answer bytes fits checks form =
-    let counted : header_form (length (grant_blocks bytes)) (header bytes) ≡ true = rw (length-grant_blocks bytes) form in
-    simp (fits, checks, counted) (by (read_grants (byte 1 bytes) (grant_blocks bytes)) (λ gs e. (read_grants_lem (byte 1 bytes) (grant_blocks bytes) gs e).count ∙ length-grant_blocks bytes))
+ledger_answer bytes fits checks form = simp (fits, checks, form) (by (read_grants (byte 1 bytes) (grant_blocks bytes)) (λ gs e. (read_grants_lem (byte 1 bytes) (grant_blocks bytes) gs e).count))
   where
-    by : (r : Reading (List Grant)) → ((gs : List Grant) → r ≡ accepted gs → length gs ≡ length bytes / 512 - 1)
-        → sizes (and_then r (λ gs. accepted (record { names = byte 1 bytes; grants = gs }))) ≡ then (done r) (accepted (record { names = byte 1 bytes; grants = length bytes / 512 - 1 }))
+    by : (r : Reading (List Grant)) → ((gs : List Grant) → r ≡ accepted gs → length gs ≡ length (grant_blocks bytes))
+        → sizes (and_then r (λ gs. accepted (record { names = byte 1 bytes; grants = gs }))) ≡ then (done r) (accepted (record { names = byte 1 bytes; grants = length (grant_blocks bytes) }))
     by (accepted gs) h = rw (h gs refl)
     by (refused k) h = refl

@@ -1,11 +1,11 @@
 // The ledger: the reader with its refusals, and the parts where the grants' terms stand.
 #![tactic(auto)]
 
-ghost use Rattle.std.specs.Prelude.{◌≡◌, ◌&&◌, ℕ, ◌+◌, ◌≤◌, ◌<◌, length};
-ghost use Rattle.model.specs.Bytes.{byte, field};
+ghost use Rattle.std.specs.Prelude.{◌≡◌, ℕ, ◌+◌, ◌/◌, ◌≤◌, length};
+ghost use Rattle.model.specs.Bytes.{byte, field, pieces};
 ghost use Rattle.model.specs.Readings.{refused_as};
 ghost use Rattle.model.specs.Terms.{read_term};
-ghost use Rattle.model.specs.Ledgers.{checked, header, grant_blocks, all_checked, header_form, grant_form, grant_block, first_day, last_day, read_grant, read_block, read_grants, read_ledger, read_book};
+ghost use Rattle.model.specs.Ledgers.{all_checked, header_form, grant_form, grant_block, first_day, last_day, read_grant, read_block, read_grants, read_ledger, read_book};
 ghost use Rattle.refusals.specs.Results.{reading_of, done};
 ghost use Rattle.ledgers.specs.Forms.{term_form};
 ghost use Rattle.ledgers.specs.Places.{block_place};
@@ -24,18 +24,23 @@ pub const LABEL: TermField = TermField { length: 3, at: 144 };
 // And where its days do: the first, and four bytes on the last.
 pub const DAYS: usize = 208;
 
-// Every block's check holds.
-fn all_checks(ledger: &[u8]) -> bool
-    requires { 512 ≤ length ledger.now }
-    ensures { result ≡ (checked (header ledger.now) && all_checked (grant_blocks ledger.now)) }
+// The blocks of a ledger.
+fn blocks(ledger: &[u8]) -> &[[u8; 512]]
+    ensures { result.now ≡ pieces 512 (length ledger.now / 512) ledger.now }
 {
-    (0..ledger.len() / 512).all(|k| checks::block_check(fields::piece(ledger, 512, k)))
+    ledger.as_chunks::<512>().0
+}
+
+// Every block's check holds.
+fn all_checks(blocks: &[[u8; 512]]) -> bool
+    ensures { result ≡ all_checked blocks.now }
+{
+    blocks.iter().all(|block| checks::block_check(block))
 }
 
 // Block 0 of a ledger of `count` grants: kind, n, count and filler.
 #[tactic(auto, unfolding(model::specs::Ledgers::header_form))]
-fn header_form(block: &[u8], count: usize) -> bool
-    requires { 510 ≤ length block.now }
+fn header_form(block: &[u8; 512], count: usize) -> bool
     ensures { result ≡ header_form count block.now }
 {
     block[0] == 1
@@ -46,16 +51,17 @@ fn header_form(block: &[u8], count: usize) -> bool
 
 // A term of a block has a length of 1 to 64, and the rest of its field is filler.
 #[tactic(auto, unfolding(crate::specs::Forms::term_form))]
-fn term_form(block: &[u8], term: TermField) -> bool
-    requires { term.length < length block.now }
+fn term_form(block: &[u8; 512], term: TermField) -> bool
     ensures { result ≡ term_form term.length term.at block.now }
 {
-    (1..=64).contains(&block[term.length]) && term.rest_is_filler(block)
+    block
+        .get(term.length)
+        .is_some_and(|len| (1..=64).contains(len))
+        && term.rest_is_filler(block)
 }
 
 // A grant's block: kind, lengths and filler.
-fn grant_form(block: &[u8]) -> bool
-    requires { 510 ≤ length block.now }
+fn grant_form(block: &[u8; 512]) -> bool
     ensures { result ≡ grant_form block.now }
 {
     block[0] == 2
@@ -67,7 +73,7 @@ fn grant_form(block: &[u8]) -> bool
 }
 
 // A term of a grant, read as a part of its block: any refusal of it is the grant's.
-fn read_at(block: &[u8], term: TermField, n: u64) -> Result<(), Refusal>
+fn read_at(block: &[u8; 512], term: TermField, n: u64) -> Result<(), Refusal>
     ensures { reading_of result ≡ done (refused_as 14 (read_term n (field term.at (byte term.length block.now) block.now))) }
 {
     terms::read_term(term.bytes(block), n).map_err(|_| Refusal::GrantTerm)
@@ -75,7 +81,7 @@ fn read_at(block: &[u8], term: TermField, n: u64) -> Result<(), Refusal>
 
 // The days of a grant: each is a date or 0, and the first is not after the last.
 #[tactic(auto, unfolding(crate::specs::Readings::days_reading))]
-fn read_days(block: &[u8]) -> Result<(), Refusal>
+fn read_days(block: &[u8; 512]) -> Result<(), Refusal>
     ensures { reading_of result ≡ days_reading (first_day block.now) (last_day block.now) }
 {
     let first = fields::four_bytes(block, DAYS);
@@ -90,8 +96,7 @@ fn read_days(block: &[u8]) -> Result<(), Refusal>
 }
 
 // The block of a grant in a job of n names: its form, then its three terms, then its days.
-fn read_grant(block: &[u8], n: u64) -> Result<(), Refusal>
-    requires { 512 ≤ length block.now }
+fn read_grant(block: &[u8; 512], n: u64) -> Result<(), Refusal>
     ensures { reading_of result ≡ done (read_grant n block.now) }
 {
     if !grant_form(block) {
@@ -108,9 +113,9 @@ fn read_grant(block: &[u8], n: u64) -> Result<(), Refusal>
 pub fn read_block(block: &[u8], n: u64) -> Result<(), Refusal>
     ensures { reading_of result ≡ done (read_block n block.now) }
 {
-    if block.len() != 512 {
+    let Ok(block) = <&[u8; 512]>::try_from(block) else {
         return Err(Refusal::LedgerLength);
-    }
+    };
     if !checks::block_check(block) {
         return Err(Refusal::Check);
     }
@@ -118,11 +123,11 @@ pub fn read_block(block: &[u8], n: u64) -> Result<(), Refusal>
 }
 
 // The blocks of all grants, one after another.
-fn read_grants(ledger: &[u8], n: u64) -> Result<(), Refusal>
-    ensures { reading_of result ≡ done (read_grants n (grant_blocks ledger.now)) }
+fn read_grants(grants: &[[u8; 512]], n: u64) -> Result<(), Refusal>
+    ensures { reading_of result ≡ done (read_grants n grants.now) }
 {
-    for k in 1..ledger.len() / 512 {
-        read_grant(fields::piece(ledger, 512, k), n)?;
+    for block in grants {
+        read_grant(block, n)?;
     }
     Ok(())
 }
@@ -141,15 +146,17 @@ pub fn read_ledger(ledger: &[u8]) -> Result<Sizes, Refusal>
     if !fields::length_fits(ledger.len(), 512, 33280) {
         return Err(Refusal::LedgerLength);
     }
-    if !all_checks(ledger) {
+    let blocks = blocks(ledger);
+    if !all_checks(blocks) {
         return Err(Refusal::Check);
     }
-    let grants = ledger.len() / 512 - 1;
-    if !header_form(&ledger[..512], grants) {
+    let (header, of_grants) = (&blocks[0], &blocks[1..]);
+    let grants = of_grants.len();
+    if !header_form(header, grants) {
         return Err(Refusal::Header);
     }
-    let names = ledger[1] as u64;
-    read_grants(ledger, names)?;
+    let names = header[1] as u64;
+    read_grants(of_grants, names)?;
     Ok(Sizes { names, grants })
 }
 
@@ -181,4 +188,12 @@ pub fn block_place(k: usize) -> usize
     ensures { result ≡ block_place k }
 {
     512 * (k.min(64) + 1)
+}
+
+// Where the field of a term of grant k begins in a ledger.
+pub fn term_place(k: usize, term: TermField) -> usize
+    requires { term.at ≤ 512 }
+    ensures { result ≡ block_place k + term.at }
+{
+    block_place(k) + term.at
 }

@@ -16,12 +16,12 @@ use words::{Row, Rows, Side};
 pub fn broken(ledger: &[u8], k: usize, g: u64, of: Rows) -> Rows
     ensures { (f : Marks) → RowsAt f g of → RowsAt (λ s c. f s c && breaks (marks_of (grant_in ledger.now k)) s c) g result }
 {
-    let p = words::hold(ledger, ledgers::block_place(k) + ledgers::P.at, g).rows;
+    let p = words::hold(ledger, ledgers::term_place(k, ledgers::P), g).rows;
     let holding = words::each_side(of, p, words::both);
     if words::none(holding) {
         return holding;
     }
-    let q = words::hold(ledger, ledgers::block_place(k) + ledgers::Q.at, g).rows;
+    let q = words::hold(ledger, ledgers::term_place(k, ledgers::Q), g).rows;
     words::rest(holding, q)
 }
 

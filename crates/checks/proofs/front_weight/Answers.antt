@@ -19,7 +19,7 @@ add_row-requires c =
     let l = c.loop-row in
     let i = l.invariant in
     let block = c.args.block.now in
-    (rw (i.sums_are, i.runs_are) (columns 15 i.rows (drop (16 * l.row) block) (omega arith) (omega arith) (bytes_from (16 * l.row) block (λ k. omega (arith, c.type_inv.block k)))), simp (length-take, length-drop) (omega arith))
+    (rw (i.sums_are, i.runs_are) (columns 15 i.rows (drop (16 * l.row) block) (omega arith) (omega arith) (bytes_from (16 * l.row) block (λ k. omega (arith, c.fits-block k)))), simp (length-take, length-drop) (omega arith))
 
 pub loop-row-preserved : goal.loop-row-preserved
 loop-row-preserved c =
@@ -38,10 +38,10 @@ columns_weight-requires c =
     let l = c.loop-row in
     let i = l.invariant in
     let block = c.args.block.now in
-    rw (i.sums_are, i.runs_are) (columns 16 i.rows (drop (16 * l.row) block) (omega arith) (omega arith) (bytes_from (16 * l.row) block (λ k. omega (arith, c.type_inv.block k))))
+    rw (i.sums_are, i.runs_are) (columns 16 i.rows (drop (16 * l.row) block) (omega arith) (omega arith) (bytes_from (16 * l.row) block (λ k. omega (arith, c.fits-block k))))
 
 pub returns : goal.returns
 returns c =
     let l = c.loop-row in
     let i = l.invariant in
-    c.columns_weight.ensures ∙ front_weight i.rows (16 * l.row) c.args.block.now l.sums l.runs (omega arith) (omega arith) c.requires i.sums_are i.runs_are
+    c.columns_weight.ensures ∙ front_weight i.rows (16 * l.row) c.args.block.now l.sums l.runs (omega arith) (omega arith) (omega (arith, c.told-block)) i.sums_are i.runs_are

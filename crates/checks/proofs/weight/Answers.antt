@@ -27,7 +27,7 @@ overflow_add-result c =
     omega (
       arith,
       whole block _ _ (omega arith) c.front_weight-front.ensures c.rest_weight.ensures,
-      weighted_most 0 510 block (omega arith) (λ k. omega (arith, c.type_inv.block k)),
+      weighted_most 0 510 block (omega arith) (λ k. omega (arith, c.fits-block k)),
     )
 
 pub returns : goal.returns

@@ -34,17 +34,17 @@ returns-then-derivation-step c =
 
 pub returns-in_err-of : goal.returns-in_err-of
 returns-in_err-of c =
-    let rule : eqb (byte 0 c.step_at-quoted.result.now) 2 ≡ false = sym (uses_grant_lem _) ∙ rw (← c.in_err-of.ensures) in
+    let rule : eqb (byte 0 c.step_at-named.result.now) 2 ≡ false = sym (uses_grant_lem _) ∙ rw (← c.in_err-of.ensures) in
     rw c.from_residual-in_err-of.ensures
-    (sym (quote_told _ _ _ _ _ _ _ _ (sym c.check_derivation.ensures ∙ accepts _ _ c.in_ok-ok.ensures.value) c.step_at-quoted.ensures (lt-ltb _ _ c.if-derivation-step.false) rule))
+    (sym (quote_told _ _ _ _ _ _ _ _ (sym c.check_derivation.ensures ∙ accepts _ _ c.in_ok-ok.ensures.value) c.step_at-named.ensures (lt-ltb _ _ c.if-derivation-step.false) rule))
 
 pub returns-in_default : goal.returns-in_default
 returns-in_default c =
-    let rule : eqb (byte 0 c.step_at-quoted.result.now) 2 ≡ false = sym (uses_grant_lem _) ∙ rw (← c.in_ok-of.ensures) (not_granted _ c.in_default.not-Granted) in
-    sym (quote_told _ _ _ _ _ _ _ _ (sym c.check_derivation.ensures ∙ accepts _ _ c.in_ok-ok.ensures.value) c.step_at-quoted.ensures (lt-ltb _ _ c.if-derivation-step.false) rule)
+    let rule : eqb (byte 0 c.step_at-named.result.now) 2 ≡ false = sym (uses_grant_lem _) ∙ rw (← c.in_ok-of.ensures) (not_granted _ c.in_default.not-Granted) in
+    sym (quote_told _ _ _ _ _ _ _ _ (sym c.check_derivation.ensures ∙ accepts _ _ c.in_ok-ok.ensures.value) c.step_at-named.ensures (lt-ltb _ _ c.if-derivation-step.false) rule)
 
 pub returns-in-Granted : goal.returns-in-Granted
 returns-in-Granted c =
-    let rule : eqb (byte 0 c.step_at-quoted.result.now) 2 ≡ true = sym (uses_grant_lem _) ∙ rw (← c.in_ok-of.ensures, c.in-Granted.is) in
+    let rule : eqb (byte 0 c.step_at-named.result.now) 2 ≡ true = sym (uses_grant_lem _) ∙ rw (← c.in_ok-of.ensures, c.in-Granted.is) in
     c.grant_block.ensures
-    ∙ sym (quote_told _ _ _ _ _ _ _ _ (sym c.check_derivation.ensures ∙ accepts _ _ c.in_ok-ok.ensures.value) c.step_at-quoted.ensures (lt-ltb _ _ c.if-derivation-step.false) rule)
+    ∙ sym (quote_told _ _ _ _ _ _ _ _ (sym c.check_derivation.ensures ∙ accepts _ _ c.in_ok-ok.ensures.value) c.step_at-named.ensures (lt-ltb _ _ c.if-derivation-step.false) rule)

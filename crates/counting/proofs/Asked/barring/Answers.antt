@@ -1,5 +1,5 @@
 use mathlib.Core.Path.{sym, ap, ap₂, ◌∙◌, subst}
-use Prim.Native.Nat.{ℕ, ◌+◌}
+use Prim.Native.Nat.{ℕ}
 use lib.Bits.{bit_and, bit_or}
 use lib.ListN.{drop}
 use Rattle.model.specs.Terms.{held}
@@ -14,7 +14,7 @@ use Rattle.counting.proofs.Asked.barring.Goals.{After-hold-2}
 own_rows : (c : After-hold-2) → let a = c.args in RowsAt (held (grant_in a.self.now.ledger.now a.k).label) a.g c.hold-2.result.rows
 own_rows c =
     let a = c.args in
-    subst (λ (at : ℕ). RowsAt (held (term_in (drop at a.self.now.ledger.now))) a.g c.hold-2.result.rows) (ap (λ (b : ℕ). b + 144) c.block_place.ensures) c.hold-2.ensures.held_there
+    subst (λ (at : ℕ). RowsAt (held (term_in (drop at a.self.now.ledger.now))) a.g c.hold-2.result.rows) c.term_place.ensures c.hold-2.ensures.held_there
 
 pub returns-then-empty : goal.returns-then-empty
 returns-then-empty c =
@@ -25,7 +25,7 @@ returns c =
     let a = c.args in
     let under = c.hold.result.rows in
     let q : RowsAt (held (grant_in a.self.now.ledger.now a.k).q) a.g c.hold-3.result.rows =
-    subst (λ (at : ℕ). RowsAt (held (term_in (drop at a.self.now.ledger.now))) a.g c.hold-3.result.rows) (ap (λ (b : ℕ). b + 80) c.block_place-2.ensures) c.hold-3.ensures.held_there in
+    subst (λ (at : ℕ). RowsAt (held (term_in (drop at a.self.now.ledger.now))) a.g c.hold-3.result.rows) c.term_place-2.ensures c.hold-3.ensures.held_there in
     bars_row _ _ _ _ _ c.hold.ensures.held_there (own_rows (goal.at.returns c).After-hold-2) _ _ q
     (c.either.ensures
     ∙ ap₂ (each_word bit_or) c.without-unseen.ensures

@@ -1,5 +1,5 @@
-use mathlib.Core.Path.{◌≡◌, ap, subst}
-use Prim.Native.Nat.{ℕ, ◌+◌}
+use mathlib.Core.Path.{◌≡◌, subst}
+use Prim.Native.Nat.{ℕ}
 use native.Mathlib.Decide.{dec_lt}
 use native.Mathlib.Omega.{arith}
 use Rattle.counting.specs.Counted.{NamesAt}
@@ -12,7 +12,7 @@ returns c =
     let r = c.names_at-all.result in
     elim (dec_lt r a.self.now.names) [
       | yes h ↦ (let e : c.min.result ≡ r = omega arith in rw e (needed_few _ _ _ _ _ _ _ h c.names_at-asked.ensures
-          (subst (λ (at : ℕ). NamesAt a.self.now.ledger.now at c.names_at-asked.result c.names_at-own.result) (ap (λ (b : ℕ). b + 144) c.block_place.ensures) c.names_at-own.ensures)
-          (subst (λ (at : ℕ). NamesAt a.self.now.ledger.now at c.names_at-own.result c.names_at-all.result) (ap (λ (b : ℕ). b + 80) c.block_place-2.ensures) c.names_at-all.ensures)))
+          (subst (λ (at : ℕ). NamesAt a.self.now.ledger.now at c.names_at-asked.result c.names_at-own.result) c.term_place.ensures c.names_at-own.ensures)
+          (subst (λ (at : ℕ). NamesAt a.self.now.ledger.now at c.names_at-own.result c.names_at-all.result) c.term_place-2.ensures c.names_at-all.ensures)))
       | no h ↦ (let e : c.min.result ≡ a.self.now.names = omega arith in rw e (needed_all _ _ _ _))
     ]

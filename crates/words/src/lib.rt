@@ -24,7 +24,7 @@ pub enum Side {
 }
 
 // A row of a set of coalitions: its four words, lowest first.
-// Kept: four fields stay in registers, where an array of four words goes through memory at each call.
+// Kept: four fields can stay in registers, where an array of four words may go through memory at each call. The array was not measured.
 #[derive(Clone, Copy, Debug, PartialEq, Eq)]
 pub struct Row {
     pub a: u64,

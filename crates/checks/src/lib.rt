@@ -54,6 +54,7 @@ fn rest_weight(rest: &[u8]) -> u32
     ensures { result ≡ weighted 256 rest.now }
 {
     let mut sum: u32 = 0;
+    // Kept: as the `sum` of a `map`, it was not proved that the sum fits, which needs i below 254.
     for (i, b) in rest.iter().enumerate() {
         sum += (i as u32 + 257) * *b as u32;
     }

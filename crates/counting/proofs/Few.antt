@@ -1,16 +1,16 @@
 -- A coalition's names from m up make no difference to terms whose names are below m, so that a grant is judged in m names as in more. Assumes nothing.
 use mathlib.Core.Path.{◌≡◌, refl, sym, ap, ap₂, ◌∙◌, subst}
 use mathlib.Core.Bool.{Bool, true, false, true≢false, not, ◌&&◌, ◌||◌}
-use mathlib.Core.List.{List}
-use Prim.Native.Nat.{ℕ, zero, suc, ◌+◌, ◌-◌, ◌*◌, ◌/◌, ◌%◌, ◌^◌, ◌≤◌, ◌<◌}
+use mathlib.Core.List.{List, [], ◌∷◌}
+use Prim.Native.Nat.{ℕ, zero, suc, ◌+◌, ◌-◌, ◌*◌, ◌/◌, ◌%◌, ◌^◌, ◌≤◌, ◌<◌, max}
 use native.Mathlib.Nat.{mod-lt, pow-suc}
 use native.Mathlib.Decide.{dec_lt}
 use native.Mathlib.Omega.{arith}
 use lib.Arith.{mod-mul}
-use lib.Dec.{eqb, leb}
-use lib.ListN.{length, drop, get_or, length-drop}
+use lib.Dec.{eqb, leb, ltb}
+use lib.ListN.{length, take, drop, get_or, length-take}
 use lib.Pow.{pow_pos, pow_mono}
-use lib.Seq.{get_or-drop}
+use lib.Seq.{get_or-take}
 use borrow.Author.Tests.{lt-ltb, le-ltb}
 use Rattle.model.specs.Sides.{Side, confidentiality, integrity}
 use Rattle.model.specs.Coalitions.{member, every, mark}
@@ -27,7 +27,7 @@ use Rattle.words.proofs.Searches.{clear_all}
 use Rattle.ledgers.specs.Places.{q_place, label_place}
 use Rattle.counting.specs.Counted.{grant_in, bars_counting, bars_at, heard_at, NamesAt, NeededOf, ClearedTo}
 use Rattle.std.specs.Bool.{MatchBool}
-use Rattle.std.specs.List.{AllWithin, HoldsAt, range_with_len}
+use Rattle.std.specs.List.{filter, fold, AllWithin, HoldsAt, range_with_len}
 use Rattle.std.proofs.lemmas.List.FromFn.{get_or-range_with_len, length-range_with_len}
 use Rattle.words.specs.declared.Row.{Row}
 use Rattle.words.specs.FourWords.{RowAt, empty_row}
@@ -102,20 +102,39 @@ heard_few m n L g h a b d =
 
 -- ---- the names that the code finds
 
--- below `most` are the names among the bytes from one place to another
-abbrev pub NamesTo : List ℕ → ℕ → ℕ → ℕ → Type 0
-NamesTo bytes at end most = (j : ℕ) → at ≤ j → j < end → j < length bytes → get_or bytes j 0 < 12 → get_or bytes j 0 < most
+-- a name among the bytes, and the number above it if that is more
+abbrev pub small : ℕ → Bool
+small b = ltb b 12
+
+abbrev pub above : ℕ → ℕ → ℕ
+above most b = max most (b + 1)
+
+-- The highest is above each.
+abbrev Above : List ℕ → ℕ → ℕ → Type 0
+Above l least most = (least ≤ most) × ((j : ℕ) → j < length l → get_or l j 0 < 12 → get_or l j 0 < most)
+
+highest : (l : List ℕ) (least : ℕ) → Above l least (fold above least (filter small l))
+highest [] least = (omega arith, λ j h. absurd (omega arith))
+highest (b ∷ l) least = elim (dec_lt b 12) [
+  | yes n ↦ rw (lt-ltb b 12 n) (let ih = highest l (max least (b + 1)) in (omega (arith, ih.0), λ j h m. next j h m (λ e. omega (arith, ih.0)) ih.1))
+  | no n ↦ rw (le-ltb b 12 (omega arith)) (let ih = highest l least in (ih.0, λ j h m. next j h m (λ e. absurd (omega arith)) ih.1))
+]
+  where
+    next : {most : ℕ} (j : ℕ) → j < length (b ∷ l) → get_or (b ∷ l) j 0 < 12 → (b < 12 → b < most) → ((i : ℕ) → i < length l → get_or l i 0 < 12 → get_or l i 0 < most) → get_or (b ∷ l) j 0 < most
+    next zero h m here rest = here m
+    next (suc i) h m here rest = rest i (omega arith) m
 
 -- all bytes that the term takes were looked at, as far as there are any
-pub names_found : (bytes : List ℕ) (at least i most end : ℕ) → least ≤ most → end ≡ at + (taken (drop at bytes)).size → NamesTo bytes at i most
-    → ((j : ℕ) → j < end → j < length bytes → j < i) → NamesAt bytes at least most
-names_found bytes at least i most end more e so_far all = record {
-  most = more;
-  below = names-taken most (length (drop at bytes)) (drop at bytes) (omega arith) (λ j l b n.
-      let d = get_or-drop at bytes j 0 in
-      let there : at + j < length bytes = omega (arith, length-drop at bytes) in
-      rw d (so_far (at + j) (omega arith) (all (at + j) (omega arith) there) there (rw d at n)));
-}
+pub names_found : (bytes : List ℕ) (at least n r : ℕ) → n ≡ (taken (drop at bytes)).size → r ≡ fold above least (filter small (take n (drop at bytes))) → NamesAt bytes at least r
+names_found bytes at least n r e f =
+    let there = drop at bytes in
+    let h : Above (take n there) least r = subst (Above (take n there) least) (sym f) (highest (take n there) least) in
+    record {
+      most = h.0;
+      below = names-taken r (length there) there (omega arith) (λ j l b m.
+          let d = get_or-take n there j 0 (omega arith) in
+          rw d at (h.1 j (omega (arith, length-take n there)) (rw d m)));
+    }
 
 -- the names of the label, of the grant's label and of its q are below r
 pub needed_few : (ledger : List ℕ) (n k : ℕ) (label : List ℕ) (a b r : ℕ) → r < n → NamesAt label 0 8 a → NamesAt ledger (label_place k) a b → NamesAt ledger (q_place k) b r

@@ -1,9 +1,10 @@
 // Which grants count under a label, on a day (document 01, "Grants that count"; document 02, K2).
 #![tactic(auto)]
 
-ghost use Rattle.std.specs.Prelude.{◌≡◌, ◌≤◌, ◌<◌};
+ghost use Rattle.std.specs.Prelude.{◌≡◌, ◌≤◌};
 ghost use Rattle.model.specs.Coalitions.{member, mark};
 ghost use Rattle.words.specs.FourWords.{RowAt};
+ghost use Rattle.words.specs.Evaluation.{job_of, ClearTo};
 ghost use Rattle.counting.specs.Counted.{bars_at, heard_at, on_day, counts_at, counted_in, nothing_known, judged_at, NamesAt, NeededOf, ClearedTo};
 
 use words::Row;
@@ -13,22 +14,10 @@ fn names_at(codes: &[u8], at: usize, least: u64) -> u64
     ensures { NamesAt codes.now at least result }
 {
     let end = words::hold(codes, at, 0).next;
-    let mut most = least;
-    for code in fields::part(codes, at, end - at) {
-        most = above_name(*code, most);
-    }
-    most
-}
-
-// The number, or one more than the name that the code is, if that is more.
-fn above_name(code: u8, most: u64) -> u64
-    ensures { (most ≤ result) × (code < 12 → code < result) }
-{
-    if code < 12 {
-        most.max(code as u64 + 1)
-    } else {
-        most
-    }
+    fields::part(codes, at, end - at)
+        .iter()
+        .filter(|code| **code < 12)
+        .fold(least, |most, code| most.max(*code as u64 + 1))
 }
 
 // A ledger of so many names and grants, and the label and the day that it is asked under.
@@ -89,18 +78,19 @@ impl Asked<'_> {
         (from..to).all(|g| words::empty(self.barring_of(n, k, g)))
     }
 
+    // The same in the rows after the first, of as many names as there is need to ask: where the first is clear, it tells whether grant k is heard.
+    fn others_clear(&self, k: usize) -> bool
+        ensures { ClearTo (job_of self.now.names) (bars_at self.now.ledger.now self.now.label.now k) 1 → result ≡ heard_at self.now.ledger.now self.now.names self.now.label.now k }
+    {
+        let names = self.names_needed(k);
+        self.rows_clear(names, k, 1, words::row_count(names))
+    }
+
     // Grant k is visible under the label, and spoken. The first row tells most grants that are not.
     fn heard(&self, k: usize) -> bool
         ensures { result ≡ heard_at self.now.ledger.now self.now.names self.now.label.now k }
     {
-        if !self.rows_clear(self.names, k, 0, 1) {
-            return false;
-        }
-        if self.names <= 8 {
-            return true;
-        }
-        let names = self.names_needed(k);
-        self.rows_clear(names, k, 1, words::row_count(names))
+        self.rows_clear(self.names, k, 0, 1) && (self.names <= 8 || self.others_clear(k))
     }
 
     // The day is within the days of grant k.
@@ -138,7 +128,7 @@ impl Asked<'_> {
     pub fn judge(&self, k: usize, known: Known) -> Known
         ensures { result ≡ judged_at (counts_at self.now.ledger.now self.now.names self.now.label.now self.now.day k) k known }
     {
-        if !may_count(known, k) || !words::bit_set(known.unjudged, k) {
+        if !known.may_count(k) || !words::bit_set(known.unjudged, k) {
             return known;
         }
         let bit: u64 = 1 << k;
@@ -163,19 +153,21 @@ pub struct Known {
     pub possible: u64,
 }
 
-// Nothing is known.
-pub fn unknown() -> Known
-    ensures { result ≡ nothing_known }
-{
-    Known {
-        unjudged: 0xFFFF_FFFF_FFFF_FFFF,
-        possible: 0xFFFF_FFFF_FFFF_FFFF,
+impl Known {
+    // Nothing is known.
+    pub fn nothing() -> Known
+        ensures { result ≡ nothing_known }
+    {
+        Known {
+            unjudged: 0xFFFF_FFFF_FFFF_FFFF,
+            possible: 0xFFFF_FFFF_FFFF_FFFF,
+        }
     }
-}
 
-// Grant k may count; past the 64 grants there are none.
-pub fn may_count(known: Known, k: usize) -> bool
-    ensures { result ≡ member k known.possible }
-{
-    words::bit_set(known.possible, k)
+    // Grant k may count; past the 64 grants there are none.
+    pub fn may_count(self, k: usize) -> bool
+        ensures { result ≡ member k self.possible }
+    {
+        words::bit_set(self.possible, k)
+    }
 }

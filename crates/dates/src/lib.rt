@@ -35,12 +35,9 @@ pub fn real_date(date: u32) -> bool
     let year = date / 10000;
     let month = date / 100 % 100;
     let day = date % 100;
-    1900 <= year
-        && year <= 2199
-        && 1 <= month
-        && month <= 12
-        && 1 <= day
-        && day <= days_in(year, month)
+    (1900..=2199).contains(&year)
+        && (1..=12).contains(&month)
+        && (1..=days_in(year, month)).contains(&day)
 }
 
 // The next day of the month, else the first of the next month, else the first of the next year.

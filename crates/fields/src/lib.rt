@@ -17,8 +17,8 @@ pub fn two_bytes(bytes: &[u8], at: usize) -> u16
     ensures { result ≡ two_bytes at bytes.now }
 {
     match part(bytes, at, 2) {
-        [high, low] => *high as u16 * 256 + *low as u16,
-        [high] => *high as u16 * 256,
+        [high, low] => u16::from_be_bytes([*high, *low]),
+        [high] => u16::from_be_bytes([*high, 0]),
         _ => 0,
     }
 }
@@ -38,11 +38,7 @@ pub fn four_bytes(bytes: &[u8], at: usize) -> u32
     ensures { result ≡ four_bytes at bytes.now }
 {
     match bytes.get(at..) {
-        Some([a, b, c, d, ..]) => {
-            let high = *a as u32 * 256 + *b as u32;
-            let low = *c as u32 * 256 + *d as u32;
-            high * 65536 + low
-        }
+        Some([a, b, c, d, ..]) => u32::from_be_bytes([*a, *b, *c, *d]),
         _ => cut_field(bytes, at),
     }
 }
@@ -71,10 +67,7 @@ pub fn part(bytes: &[u8], at: usize, len: usize) -> &[u8]
 pub fn piece(bytes: &[u8], size: usize, k: usize) -> &[u8]
     ensures { result.now ≡ field (size * k) size bytes.now }
 {
-    match size.checked_mul(k) {
-        Some(at) => part(bytes, at, size),
-        None => &[],
-    }
+    size.checked_mul(k).map_or(&[], |at| part(bytes, at, size))
 }
 
 // Where a term stands in a block or a step: byte `length` says how long it is, its field of 64 bytes begins at `at`.
@@ -89,10 +82,7 @@ impl TermField {
     fn len(self, block: &[u8]) -> usize
         ensures { result ≡ byte self.length block.now }
     {
-        match block.get(self.length) {
-            Some(len) => *len as usize,
-            None => 0,
-        }
+        block.get(self.length).map_or(0, |len| *len as usize)
     }
 
     // The term's bytes.

@@ -169,7 +169,7 @@ fn sift_grant(asked: &Asked<'_>, k: usize, g: u64, of: Sifted) -> Sifted
 {
     let left = of.left;
     let before = of.known;
-    if !counting::may_count(before, k) {
+    if !before.may_count(k) {
         return of;
     }
     let gone = soundness::broken(asked.ledger, k, g, left);
@@ -177,7 +177,7 @@ fn sift_grant(asked: &Asked<'_>, k: usize, g: u64, of: Sifted) -> Sifted
         return of;
     }
     let known = asked.judge(k, before);
-    if !counting::may_count(known, k) {
+    if !known.may_count(k) {
         return Sifted { left, known };
     }
     Sifted {
@@ -258,7 +258,7 @@ fn ask(
             label,
             day,
         },
-        known: counting::unknown(),
+        known: Known::nothing(),
     };
     Ok(first_refuter(relation, names, p, q, &mut grants))
 }

@@ -1,12 +1,17 @@
 -- What the loops over coalitions and sizes keep. Assumes nothing.
-use mathlib.Core.Path.{◌≡◌, refl, sym, ap, ◌∙◌}
-use Prim.Native.Nat.{ℕ, ◌+◌, ◌*◌, ◌%◌, ◌^◌, ◌≤◌, max, min}
+use mathlib.Core.Path.{◌≡◌, refl, sym, ap, ◌∙◌, subst}
+use Prim.Native.Nat.{ℕ, ◌+◌, ◌-◌, ◌*◌, ◌%◌, ◌^◌, ◌≤◌, max, min}
 use native.Mathlib.Numerals.{add-one}
+use native.Mathlib.Nat.{add-zero, zero-add}
 use native.Mathlib.Omega.{arith}
-use mathlib.Core.Bool.{Bool, cond}
+use mathlib.Core.Bool.{Bool, true, false, cond}
 use mathlib.Core.List.{List, ◌∷◌}
 use Rattle.std.specs.List.{range_with_len}
-use Rattle.std.proofs.Common.{filter, length, eqb, zero, suc}
+use Rattle.std.specs.Range.{range_inclusive_start, range_inclusive_end, range_inclusive_exhausted, range_inclusive_len, range_inclusive_left, range_inclusive_steps}
+use Rattle.std.specs.Iterator.{AlwaysYields}
+use Rattle.std.proofs.lemmas.Iterator.{YieldsList}
+use Rattle.std.specs.declared.ops.RangeInclusive.{RangeInclusive}
+use Rattle.std.proofs.Common.{Option, filter, fold, length, eqb, zero, suc, ◌⊎◌, inl, inr}
 use lib.Pow.{pow_mono}
 use Rattle.model.specs.Coalitions.{those}
 use Rattle.model.specs.Layers.{size, layer, largest, largest_layer}
@@ -36,17 +41,47 @@ power_fits n = shifted (min n 12) (omega arith)
 
 -- ---- the largest of the layers
 
-pub none_largest : (f : ℕ → ℕ) → 0 ≡ largest f 0
-unfolding largest
-none_largest f = refl
-
 largest-suc : (f : ℕ → ℕ) (k : ℕ) → largest f (k + 1) ≡ max (largest f k) (f k)
 unfolding largest
 largest-suc f k = ap (largest f) (add-one k)
 
-pub largest_more : (f : ℕ → ℕ) (k most found : ℕ) → most ≡ largest f k → found ≡ f k → max most found ≡ largest f (k + 1)
-largest_more f k most found so_far now = rw (so_far, now) (sym (largest-suc f k))
+-- the layers from k on, `count` of them, over the largest of those before
+largest_on : (f : ℕ → ℕ) (k count : ℕ) → fold (λ most i. max most (f i)) (largest f k) (range_with_len k count) ≡ largest f (k + count)
+largest_on f k zero = ap (largest f) (sym (add-zero k))
+largest_on f k (suc count) =
+    ap (λ (most : ℕ). fold (λ m i. max m (f i)) most (range_with_len (k + 1) count)) (sym (largest-suc f k)) ∙ largest_on f (k + 1) count ∙ ap (largest f) (omega arith)
 
-pub all_largest : (n k most : ℕ) → k ≡ n + 1 → most ≡ largest (layer n) k → most ≡ largest_layer n
-unfolding largest_layer
-all_largest n k most e h = h ∙ ap (largest (layer n)) (e ∙ add-one n)
+pub folded_largest : (n : ℕ) → fold (λ most k. max most (layer n k)) 0 (range_with_len 0 (suc n)) ≡ largest_layer n
+unfolding largest largest_layer
+folded_largest n = largest_on (layer n) 0 (suc n) ∙ ap (largest (layer n)) (zero-add (suc n))
+
+-- what `0..=n` gives
+abbrev pub next : RangeInclusive ℕ → Option ℕ → RangeInclusive ℕ → Type 0
+next = range_inclusive_steps (λ x y. y - x) (λ x y. y ≡ x + 1)
+
+abbrev left : RangeInclusive ℕ → ℕ
+left = range_inclusive_left (λ x y. y - x)
+
+spent : (s : RangeInclusive ℕ) → range_inclusive_exhausted s ≡ true → left s ≡ 0
+spent s e = ap (range_inclusive_len (λ x y. y - x) (range_inclusive_start s) (range_inclusive_end s)) e
+
+bool : (b : Bool) → (b ≡ true) ⊎ (b ≡ false)
+bool true = inl refl
+bool false = inr refl
+
+inclusive : (n : ℕ) (s : RangeInclusive ℕ) → left s ≡ n → AlwaysYields next (λ x. x) s (range_with_len (range_inclusive_start s) n)
+inclusive zero s e = λ x t p. omega (arith, p.1.1)
+inclusive (suc zero) s e = ((λ t p. omega (arith, p.1.0)), λ x t p. (p.1.0, inclusive zero t (omega (arith, p.1.1))))
+inclusive (suc (suc n)) s e = (
+  (λ t p. omega (arith, p.1.0)),
+  λ x t p. (
+    p.1.0,
+    elim (bool (range_inclusive_exhausted t)) [
+      | inl w ↦ absurd (omega (arith, spent t w, p.1.1))
+      | inr w ↦ subst (λ (k : ℕ). AlwaysYields next (λ x. x) t (range_with_len k (suc n))) (p.1.2 w) (inclusive (suc n) t (omega (arith, p.1.1)))
+    ],
+  ),
+)
+
+pub YieldsList-from_inclusive : (n : ℕ) (s : RangeInclusive ℕ) → range_inclusive_start s ≡ 0 → range_inclusive_end s ≡ n → range_inclusive_exhausted s ≡ false → YieldsList next (λ x. x) s (range_with_len 0 (suc n))
+YieldsList-from_inclusive n s a b c = record { runs = subst (λ (k : ℕ). AlwaysYields next (λ x. x) s (range_with_len k (suc n))) a (inclusive (suc n) s (rw (a, b, c) (omega arith))) }

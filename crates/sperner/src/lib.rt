@@ -58,11 +58,7 @@ pub fn layer(n: u64, k: u32) -> u32
 pub fn largest_layer(n: u64) -> u32
     ensures { result ≡ largest_layer (min n 12) }
 {
-    let mut most: u32 = 0;
-    for k in 0..n.min(12) as u32 + 1 {
-        most = most.max(layer(n, k));
-    }
-    most
+    (0..=n.min(12) as u32).fold(0, |most, k| most.max(layer(n, k)))
 }
 
 // The bytes that hold every short form of n names: 3,700 for twelve.

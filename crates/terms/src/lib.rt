@@ -23,7 +23,7 @@ impl Joiner {
     pub fn of(code: u8) -> Option<Joiner>
         ensures { result ≡ joiner_at code }
     {
-        // Kept: of a match, or of one test after another, and the other codes of its callers the compiler makes one jump table, which is slower.
+        // Kept: as a match, or as one test after another, the compiler joins these codes with the others of the callers into one jump table, which is slower.
         if code == 0x30 || code == 0x31 {
             Some(if code == 0x30 {
                 Joiner::Both
@@ -76,6 +76,7 @@ enum Shape {
     Other,
 }
 
+#[tactic(auto, unfolding(model::specs::Terms::code_of))]
 fn shape_of(code: u8, n: u64) -> Shape
     ensures { result ≡ shape_of (code_of n code) }
 {
@@ -83,13 +84,8 @@ fn shape_of(code: u8, n: u64) -> Shape
         0x20 | 0x21 => Shape::Whole,
         0x30 | 0x31 => Shape::Two,
         0x40 | 0x41 => Shape::One,
-        _ => {
-            if code < 12 && (code as u64) < n {
-                Shape::Whole
-            } else {
-                Shape::Other
-            }
-        }
+        0..=11 if (code as u64) < n => Shape::Whole,
+        _ => Shape::Other,
     }
 }
 
@@ -101,8 +97,8 @@ fn single(codes: &[u8], at: usize, n: u64) -> bool
     at < codes.len() && matches!(shape_of(codes[at], n), Shape::Whole)
 }
 
-// Reads the part that starts at `at`, and gives the place of the first code after it. It ends where its last part ends, so the loop goes on to that one. A first
-// part of a single code is passed in place; any other is read by a call.
+// Reads the part that starts at `at`, and gives the place of the first code after it. It ends where its last part ends, so the loop goes on to that one.
+// A first part of a single code is passed in place; any other is read by a call.
 #[cycle(read_part_read_quorum)]
 fn read_part(codes: &[u8], at: usize, n: u64) -> Result<usize, TermRefusal>
     ensures { term_reading result ≡ part_at codes.now at n }
@@ -130,7 +126,7 @@ fn read_part(codes: &[u8], at: usize, n: u64) -> Result<usize, TermRefusal>
 pub fn in_range(k: u8, m: u8) -> bool
     ensures { result ≡ quorate k m }
 {
-    1 <= k && k <= m && m <= 12
+    (1..=m).contains(&k) && m <= 12
 }
 
 // Reads the part that starts at `at`, where it is a quorum by its k, its m and m parts. It calls itself on the parts, and not `read_part`, so that the compiler

@@ -24,7 +24,7 @@ pub enum Side {
 }
 
 // A row of a set of coalitions: its four words, lowest first.
-// Kept: four fields stay in registers, where an array of four words goes through memory at each call.
+// Kept: four fields can stay in registers, where an array of four words may go through memory at each call. The array was not measured.
 #[derive(Clone, Copy, Debug, PartialEq, Eq)]
 pub struct Row {
     pub a: u64,
@@ -249,8 +249,8 @@ pub fn hold(codes: &[u8], at: usize, g: u64) -> Held
             rows: join(joiner, p.rows, q.rows),
         };
     }
-    // What is left over goes to `hold_quorum`, so that quorums cost the other codes no test. Its result is taken apart: handed on whole, that of every code would
-    // go through memory.
+    // What is left over goes to `hold_quorum`, so that quorums cost the other codes no test. Its result is taken apart: handed on whole, that of every code
+    // would go through memory.
     match code {
         0x21 => Held {
             next,
@@ -363,7 +363,7 @@ fn hold_quorum(codes: &[u8], at: usize, g: u64) -> Held
     let mut change = [0u64; 64];
     put_row(&mut change, 0, same(ALL));
     let mut next = at + 3;
-    for _weighed in 0..codes[at + 2] {
+    for _ in 0..codes[at + 2] {
         let p = hold_quorum(codes, next, g);
         let part = p.rows;
         weigh(&mut see, k, part.see);
@@ -391,9 +391,12 @@ pub fn low_mask(n: u64, w: u64) -> u64
     ensures { result ≡ coalition_word n w }
 {
     if n < 6 {
-        return if w == 0 { (1 << (1u64 << n)) - 1 } else { NONE };
+        if w == 0 { (1 << (1u64 << n)) - 1 } else { NONE }
+    } else if below_power(w, n - 6) {
+        ALL
+    } else {
+        NONE
     }
-    if below_power(w, n - 6) { ALL } else { NONE }
 }
 
 // The coalitions of row g that n names have. Fewer than eight names have one row, of which they fill two words at most.
@@ -401,28 +404,28 @@ pub fn low_row(n: u64, g: u64) -> Row
     ensures { RowAt (λ c. ltb c (2 ^ n)) g result }
 {
     if n < 8 {
-        if g != 0 {
-            return same(NONE);
+        if g == 0 {
+            Row {
+                a: low_mask(n, 0),
+                b: low_mask(n, 1),
+                c: NONE,
+                d: NONE,
+            }
+        } else {
+            same(NONE)
         }
-        return Row {
-            a: low_mask(n, 0),
-            b: low_mask(n, 1),
-            c: NONE,
-            d: NONE,
-        };
-    }
-    if below_power(g, n - 8) {
+    } else if below_power(g, n - 8) {
         same(ALL)
     } else {
         same(NONE)
     }
 }
 
-// How many parts of 2^names coalitions those of n names take.
-fn part_count(n: u64, names: u64) -> u64
-    ensures { result ≡ 2 ^ (job_of n - names) }
+// How many parts of 2^bits coalitions those of n names take.
+fn part_count(n: u64, bits: u64) -> u64
+    ensures { result ≡ 2 ^ (job_of n - bits) }
 {
-    1 << n.min(12).saturating_sub(names)
+    1 << n.min(12).saturating_sub(bits)
 }
 
 // How many words the coalitions of n names take.

@@ -76,6 +76,6 @@ returns c =
     let L = third g.In_ok-map_err-3 in
     let a = c.args in
     verdict_answers c.first_refuter.result
-    ∙ ap answer_to (c.first_refuter.ensures _ (record { few = grants_few _ _ _ _ l.of; is = λ s c. refl; so = rw c.unknown.ensures (known_nothing _) }))
+    ∙ ap answer_to (c.first_refuter.ensures _ (record { few = grants_few _ _ _ _ l.of; is = λ s c. refl; so = rw c.nothing.ensures (known_nothing _) }))
     ∙ judged_asked a.relation _ _ _ _ _ _ _ l.ledger tp.value tq.value L.value l.of tp.is tq.is L.is
     ∙ ask_answer _ _ _ _ _ _ (real g.Else-not-real_date) l.ledger _ l.of.is (sym l.of.names) tp.value tp.is tq.value tq.is L.value L.is

@@ -84,24 +84,24 @@ hold_quorum-returns-then-not-is_quorum t c =
     let q = (goal.at.hold_quorum-returns-then-not-is_quorum t c).Else-not-leaves in
     eval_left_over _ _ _ (there t q) _ (c.alike.ensures ∙ ap both_sides c.same.ensures) (told t q) (sym c.is_quorum.ensures ∙ c.if-not-is_quorum.true)
 
-pub hold_quorum-loop-weighed-init : goal.hold_quorum-loop-weighed-init
-hold_quorum-loop-weighed-init t c =
-    (few t (goal.at.hold_quorum-loop-weighed-init t c).Else-not-is_quorum, rw sub-zero (weighing_start _ _ _ _ _ _ _ _ _ c.same-2.ensures c.same-3.ensures c.put_row.ensures c.put_row-2.ensures))
+pub hold_quorum-loop-init : goal.hold_quorum-loop-init
+hold_quorum-loop-init t c =
+    (few t (goal.at.hold_quorum-loop-init t c).Else-not-is_quorum, rw sub-zero (weighing_start _ _ _ _ _ _ _ _ _ c.same-2.ensures c.same-3.ensures c.put_row.ensures c.put_row-2.ensures))
 
 pub hold_quorum-hold_quorum-p-requires : goal.hold_quorum-hold_quorum-p-requires
 hold_quorum-hold_quorum-p-requires t c =
-    (omega (arith, there t (goal.at.hold_quorum-hold_quorum-p-requires t c).Else-not-leaves, c.loop-weighed.invariant.1.forward, behind_most c.args.codes.now c.loop-weighed.next, c.decreases), tt)
+    (omega (arith, there t (goal.at.hold_quorum-hold_quorum-p-requires t c).Else-not-leaves, c.loop.invariant.1.forward, behind_most c.args.codes.now c.loop.next, c.decreases), tt)
 
-pub hold_quorum-loop-weighed-preserved : goal.hold_quorum-loop-weighed-preserved
-hold_quorum-loop-weighed-preserved t c =
-    let l = c.loop-weighed in
+pub hold_quorum-loop-preserved : goal.hold_quorum-loop-preserved
+hold_quorum-loop-preserved t c =
+    let l = c.loop in
     let m = get_or c.args.codes.now (c.args.at + 2) 0 in
-    let fewer : m - (l._weighed + 1) ≡ m - l._weighed - 1 = omega arith in
-    (l.invariant.0, rw fewer (weighing_next _ _ _ _ _ _ _ _ c.hold_quorum-p.ensures _ _ _ _ l.invariant.0 c.weigh.ensures c.weigh-in-loop-weighed.ensures (m - l._weighed) (omega arith) l.invariant.1))
+    let fewer : m - (l.counter + 1) ≡ m - l.counter - 1 = omega arith in
+    (l.invariant.0, rw fewer (weighing_next _ _ _ _ _ _ _ _ c.hold_quorum-p.ensures _ _ _ _ l.invariant.0 c.weigh.ensures c.weigh-in-loop.ensures (m - l.counter) (omega arith) l.invariant.1))
 
 pub hold_quorum-returns : goal.hold_quorum-returns
 hold_quorum-returns t c =
     let p = goal.at.hold_quorum-returns t c in
-    let l = c.loop-weighed in
+    let l = c.loop in
     rw (c.row_at.ensures, c.row_at-2.ensures)
-    (eval_quorum _ _ _ (there t p.Else-not-leaves) _ _ (get_or c.args.codes.now (c.args.at + 2) 0 - l._weighed) _ (omega arith) (counted t p.Else-not-is_quorum) l.invariant.1)
+    (eval_quorum _ _ _ (there t p.Else-not-leaves) _ _ (get_or c.args.codes.now (c.args.at + 2) 0 - l.counter) _ (omega arith) (counted t p.Else-not-is_quorum) l.invariant.1)

@@ -11,6 +11,6 @@ decreases-hold l = 3 * (length l.codes.now - l.at) + 1
 abbrev pub decreases-hold_quorum : goal.decreases-hold_quorum
 decreases-hold_quorum l = 3 * (length l.codes.now - l.at) + behind l.codes.now l.at
 
-abbrev pub invariant-hold_quorum-loop-weighed : goal.invariant-hold_quorum-loop-weighed
-invariant-hold_quorum-loop-weighed l =
-    (l.k ≤ 12) × Weighing l.codes (l.at + 3) (get_or l.codes (l.at + 2) 0) l.g l.k (get_or l.codes (l.at + 2) 0 - l._weighed) l.next l.see l.change
+abbrev pub invariant-hold_quorum-loop : goal.invariant-hold_quorum-loop
+invariant-hold_quorum-loop l =
+    (l.k ≤ 12) × Weighing l.codes (l.at + 3) (get_or l.codes (l.at + 2) 0) l.g l.k (get_or l.codes (l.at + 2) 0 - l.counter) l.next l.see l.change

@@ -2,7 +2,7 @@
 // from the file `calls` (tests/make_cases.c writes it and says how it is laid out). It prints a line for each case.
 #![tactic(auto)]
 
-ghost use Rattle.std.specs.Prelude.{◌≡◌, true, ◌++◌, ◌+◌, ◌-◌, ◌≤◌, ◌<◌, length, replicate, IfSome};
+ghost use Rattle.std.specs.Prelude.{◌≡◌, true, ◌++◌, ◌+◌, ◌-◌, ◌^◌, ◌≤◌, ◌<◌, length, replicate, IfSome};
 ghost use Rattle.model.specs.Bytes.{field};
 ghost use Rattle.cases.specs.Records.{eight_bytes, input_length, input_start, Within};
 
@@ -26,7 +26,7 @@ const GOOD: [u8; 1] = [0x21];
 
 // An eight-byte field, big-endian.
 fn eight_bytes(bytes: &[u8], at: usize) -> u64
-    requires { at + 8 ≤ length bytes.now }
+    requires { at + 4 < 2 ^ 64 }
     ensures { result ≡ eight_bytes at bytes.now }
 {
     four_bytes(bytes, at) as u64 * 4294967296 + four_bytes(bytes, at + 4) as u64
@@ -45,10 +45,9 @@ fn is_filled(bytes: &[u8], b: u8) -> bool
 fn is_written(buffer: &[u8], expected: &[u8], b: u8) -> bool
     ensures { result ≡ true → buffer.now ≡ expected.now ++ replicate (length buffer.now - length expected.now) b }
 {
-    match buffer.strip_prefix(expected) {
-        Some(rest) => is_filled(rest, b),
-        None => false,
-    }
+    buffer
+        .strip_prefix(expected)
+        .is_some_and(|rest| is_filled(rest, b))
 }
 
 // Case K.
@@ -289,9 +288,7 @@ impl Operation {
 
 impl Call {
     // The number that the engine gives. What a call doesn't take is empty.
-    fn number(self, unpacked: &[u8], buffer: &mut [u8]) -> u32
-        requires { 52 ≤ length unpacked.now }
-    {
+    fn number(self, unpacked: &[u8], buffer: &mut [u8]) -> u32 {
         let ledger = input(unpacked, 0);
         let p = input(unpacked, 1);
         let q = input(unpacked, 2);
@@ -316,9 +313,7 @@ impl Call {
 }
 
 // The engine gives the expected number, and the buffer is afterwards as expected.
-fn call_agrees(asked: Call, unpacked: &[u8], expected: &[u8], space: &mut [u8]) -> bool
-    requires { 52 ≤ length unpacked.now }
-{
+fn call_agrees(asked: Call, unpacked: &[u8], expected: &[u8], space: &mut [u8]) -> bool {
     let room = four_bytes(unpacked, 32) as usize;
     let value = four_bytes(unpacked, 36);
     let Some(buffer) = space.get_mut(..room) else {
@@ -334,9 +329,7 @@ fn call_agrees(asked: Call, unpacked: &[u8], expected: &[u8], space: &mut [u8]) 
 }
 
 // The engine quotes the expected part of the ledger.
-fn quote_agrees(unpacked: &[u8]) -> bool
-    requires { 52 ≤ length unpacked.now }
-{
+fn quote_agrees(unpacked: &[u8]) -> bool {
     let ledger = input(unpacked, 0);
     let label = input(unpacked, 3);
     let derivation = input(unpacked, 4);
@@ -382,11 +375,7 @@ impl Held {
             4 => live_calls::trials_live_flows_to(head, text, numbers, first, second),
             _ => return None,
         };
-        if given == four_bytes(asked, 1) {
-            Some(rest)
-        } else {
-            None
-        }
+        (given == four_bytes(asked, 1)).then_some(rest)
     }
 
     // Makes all calls, each on what those before it left.
@@ -469,15 +458,26 @@ fn read_full<R: Read>(reader: &mut R, part: &mut [u8]) -> io::Result<usize> {
     Ok(got)
 }
 
-// Reads on at the end of the last record, where nothing may come.
-fn at_end<R: Read>(reader: &mut R) -> io::Result<Option<bool>> {
-    let mut byte = [0u8; 1];
-    let more = reader.read(&mut byte)?;
-    Ok(if more == 0 { None } else { Some(false) })
+// What comparing the next record gives.
+#[derive(Clone, Copy)]
+enum Compared {
+    Same,
+    Differs,
+    // The file is at its end.
+    Ended,
 }
 
-// Reads the next record and compares: none where the file is at its end.
-fn compare_next<R: Read>(reader: &mut R, room: &mut Room) -> io::Result<Option<bool>> {
+// Reads on at the end of the last record, where nothing may come.
+fn at_end<R: Read>(reader: &mut R) -> io::Result<Compared> {
+    let mut byte = [0u8; 1];
+    match reader.read(&mut byte)? {
+        0 => Ok(Compared::Ended),
+        _ => Ok(Compared::Differs),
+    }
+}
+
+// Reads the next record and compares.
+fn compare_next<R: Read>(reader: &mut R, room: &mut Room) -> io::Result<Compared> {
     let Room {
         packed,
         unpacked,
@@ -489,15 +489,19 @@ fn compare_next<R: Read>(reader: &mut R, room: &mut Room) -> io::Result<Option<b
         return at_end(reader);
     }
     let Some(packed) = packed.get_mut(..four_bytes(&head, 0) as usize) else {
-        return Ok(Some(false));
+        return Ok(Compared::Differs);
     };
     if got < 4 || read_full(reader, packed)? < packed.len() {
-        return Ok(Some(false));
+        return Ok(Compared::Differs);
     }
     let Some(len) = unpack(packed, unpacked) else {
-        return Ok(Some(false));
+        return Ok(Compared::Differs);
     };
-    Ok(Some(agrees(&unpacked[..len], space)))
+    if agrees(&unpacked[..len], space) {
+        Ok(Compared::Same)
+    } else {
+        Ok(Compared::Differs)
+    }
 }
 
 // Says on standard error which record differs, counted from 0.
@@ -509,12 +513,12 @@ fn name_record(rt: &impl Eprint, k: u64) -> io::Result<()> {
 fn compare_all<R: Read>(rt: &impl Eprint, reader: &mut R, room: &mut Room) -> io::Result<bool> {
     for k in 0..1000000u64 {
         match compare_next(reader, room)? {
-            Some(true) => {}
-            Some(false) => {
+            Compared::Same => {}
+            Compared::Differs => {
                 name_record(rt, k)?;
                 return Ok(false);
             }
-            None => return Ok(2000 <= k),
+            Compared::Ended => return Ok(2000 <= k),
         }
     }
     Ok(false)

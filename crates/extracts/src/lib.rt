@@ -1,7 +1,7 @@
 // The extract call (document 01, "Extract"), on a day (document 02, K2).
 #![tactic(auto)]
 
-ghost use Rattle.std.specs.Prelude.{◌≡◌, ◌+◌, ◌≤◌, ◌<◌, length};
+ghost use Rattle.std.specs.Prelude.{◌≡◌, ◌+◌, ◌*◌, ◌≤◌, length};
 ghost use Rattle.model.specs.Extracts.{extract};
 ghost use Rattle.soundness.specs.Keeping.{sound_in};
 ghost use Rattle.extracts.specs.Halves.{paste_word, paste_row, blank, Halves};
@@ -14,7 +14,7 @@ use words::Row;
 
 // Bytes 8 × w to 8 × w + 7 of a half become those of a word of marks, lowest first: coalition c is bit c mod 8 of byte c div 8.
 fn put_word(half: &mut [u8], w: usize, word: u64)
-    requires { (w < 64) × (length half.old ≡ 512) }
+    requires { 8 * w + 8 ≤ length half.old }
     ensures { half.new ≡ paste_word half.old w word }
 {
     half[8 * w..8 * w + 8].copy_from_slice(&word.to_le_bytes());
@@ -22,7 +22,7 @@ fn put_word(half: &mut [u8], w: usize, word: u64)
 
 // Bytes 32 × g to 32 × g + 31 of a half become those of a row.
 fn put_row(half: &mut [u8], g: u64, row: Row)
-    requires { (g < 16) × (length half.old ≡ 512) }
+    requires { 32 * g + 32 ≤ length half.old }
     ensures { half.new ≡ paste_row half.old g row }
 {
     let w = 4 * g as usize;
@@ -55,21 +55,22 @@ pub fn extract(ledger: &[u8], label: &[u8], day: u32, buffer: &mut [u8]) -> Resu
     if buffer.len() != 1024 {
         return Err(Refusal::ExtractLength);
     }
-    let book = ledgers::read_book(ledger, label)?;
+    // Kept: each call has its own order of refusals, so that reading, counting and choosing are no one function.
+    let sizes = ledgers::read_book(ledger, label)?;
     let asked = Asked {
         ledger,
-        names: book.names,
-        grants: book.grants,
+        names: sizes.names,
+        grants: sizes.grants,
         label,
         day,
     };
     let chosen = Chosen {
         ledger,
-        grants: book.grants,
+        grants: sizes.grants,
         bits: asked.counted(),
     };
     buffer.fill(0);
     let (see, change) = buffer.split_at_mut(512);
-    mark_sound(&chosen, book.names, see, change);
+    mark_sound(&chosen, sizes.names, see, change);
     Ok(())
 }

@@ -14,7 +14,6 @@ ghost use Rattle.live.specs.Held.{live_of, Holds, Stepped, Unaltered, Made};
 use counting::Asked;
 use questions::{Refuter, Relation};
 use refusals::Refusal;
-use stored::Step;
 
 // The head of a live ledger.
 // Kept: C keeps the head, and lends bytes and numbers one by one.
@@ -102,7 +101,7 @@ pub fn add(
         label: live.label(),
         day: live.day,
     };
-    Step::Raise.counting(numbers, &asked, live.held);
+    stored::count_in(numbers, &asked, live.held);
     Ok(Live {
         held: live.held + 1,
         ..live
@@ -131,7 +130,7 @@ pub fn withdraw(
         label: live.label(),
         day: live.day,
     };
-    Step::Lower.counting(numbers, &asked, k);
+    stored::count_out(numbers, &asked, k);
     blocks::remove(ledger, live.names, live.held, k);
     Ok(Live {
         held: live.held - 1,

@@ -1,4 +1,5 @@
-// The calls of the C library, which `rights_c` exports. Each asks nothing of its caller, calls one proved function, and gives its answer as one number.
+// The calls of the C library, which `rights_c` exports: each asks nothing of its caller, calls one proved function, and gives its answer as one number. Before
+// them, what makes that number.
 #![tactic(auto)]
 
 ghost use Rattle.std.specs.Prelude.{◌≡◌};
@@ -19,12 +20,20 @@ use questions::Refuter;
 use refusals::Refusal;
 use words::Side;
 
+// Kinds 1 and 2 of a number, without the figure: no, and refused.
+pub const NO: u32 = 65536;
+
+pub const REFUSED: u32 = 131072;
+
+// The change side in the figure of a no.
+const CHANGE: u32 = 4096;
+
 // A refusal as the one number that it is to C: kind 2.
 #[tactic(auto, unfolding(model::specs::Answers::number))]
 pub fn refused_number(why: Refusal) -> u32
     ensures { result ≡ number (Refused (refusal_number why)) }
 {
-    131072 + why.number() as u32
+    REFUSED + why.number() as u32
 }
 
 // The answer to a question likewise: yes is kind 0, no kind 1 with the side and the coalition that refutes.
@@ -35,8 +44,8 @@ pub fn answer_number(answer: Result<Option<Refuter>, Refusal>) -> u32
     match answer {
         Ok(None) => 0,
         Ok(Some(refuter)) => match refuter.side {
-            Side::See => 65536 + refuter.coalition as u32,
-            Side::Change => 65536 + 4096 + refuter.coalition as u32,
+            Side::See => NO + refuter.coalition as u32,
+            Side::Change => NO + CHANGE + refuter.coalition as u32,
         },
         Err(why) => refused_number(why),
     }
@@ -63,7 +72,7 @@ fn checked_number(checked: Result<(), DerivationRefusal>) -> u32
         Ok(()) => 0,
         Err(DerivationRefusal::Call(why)) => refused_number(why),
         Err(DerivationRefusal::Step(step, why)) => {
-            131072 + (step as u32 * 256 + why.number() as u32)
+            REFUSED + (step as u32 * 256 + why.number() as u32)
         }
     }
 }

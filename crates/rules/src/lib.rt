@@ -1,4 +1,5 @@
-// What the rules of a derivation that compare bytes ask of a step's terms: rules 2 to 7 (document 01, "Derivations"). A part that is missing is shorter, or empty.
+// What the rules of a derivation that compare bytes ask of a step's terms: rules 2 to 7 (document 01, "Derivations"). A part that is missing is shorter, or
+// empty.
 #![tactic(auto)]
 
 ghost use Rattle.std.specs.Prelude.{◌≡◌, ◌&&◌, List, ◌∷◌, ◌++◌, ℕ};
@@ -46,7 +47,7 @@ fn code_then_two(s: &[u8], code: u8, a: &[u8], b: &[u8]) -> bool
 }
 
 // A step's p and its q, parts of the step.
-// Kept: the two are named as document 01 names them.
+// Kept: a term is also read alone, as two arguments of one call; a pair for the two would be taken apart again.
 pub fn left(step: &[u8]) -> &[u8]
     ensures { result.now ≡ left step.now }
 {
@@ -57,21 +58,6 @@ pub fn right(step: &[u8]) -> &[u8]
     ensures { result.now ≡ right step.now }
 {
     RIGHT.bytes(step)
-}
-
-// Rule 2: the step's terms are p and q, the grant's.
-pub fn has_terms(step: &[u8], p: &[u8], q: &[u8]) -> bool
-    ensures { result ≡ (same (left step.now) p.now && same (right step.now) q.now) }
-{
-    same(left(step), p) && same(right(step), q)
-}
-
-// Rule 3: the first premise is p for m, the second m for q.
-#[tactic(auto, unfolding(model::specs::Derivations::meets))]
-pub fn transitive(step: &[u8], a: &[u8], b: &[u8]) -> bool
-    ensures { (l : Ledger) → result ≡ meets l transitive step.now a.now b.now }
-{
-    same(left(a), left(step)) && same(right(a), left(b)) && same(right(b), right(step))
 }
 
 // A step's two terms.
@@ -102,6 +88,27 @@ impl<'a> Terms<'a> {
             right: self.left,
         }
     }
+}
+
+// Rule 2: the step's terms are p and q, the grant's.
+pub fn has_terms(step: &[u8], p: &[u8], q: &[u8]) -> bool
+    ensures { result ≡ (same (left step.now) p.now && same (right step.now) q.now) }
+{
+    let whole = Terms::of(step);
+    same(whole.left, p) && same(whole.right, q)
+}
+
+// Rule 3: the first premise is p for m, the second m for q.
+#[tactic(auto, unfolding(model::specs::Derivations::meets))]
+pub fn transitive(step: &[u8], a: &[u8], b: &[u8]) -> bool
+    ensures { (l : Ledger) → result ≡ meets l transitive step.now a.now b.now }
+{
+    let whole = Terms::of(step);
+    let first = Terms::of(a);
+    let second = Terms::of(b);
+    same(first.left, whole.left)
+        && same(first.right, second.left)
+        && same(second.right, whole.right)
 }
 
 // Rules 4 and 5: on the right the whole is a code, then the premises' terms in order; on the left both are the whole's.
@@ -150,5 +157,7 @@ pub fn projects(side: Side, step: &[u8], a: &[u8]) -> bool
     ensures { (l : Ledger) (b : List ℕ) → result ≡ meets l (projection (side_of side)) step.now a.now b }
 {
     let code = code_of(side);
-    code_then(left(step), code, left(a)) && code_then(right(step), code, right(a))
+    let whole = Terms::of(step);
+    let first = Terms::of(a);
+    code_then(whole.left, code, first.left) && code_then(whole.right, code, first.right)
 }

@@ -8,6 +8,7 @@ use native.Mathlib.Decide.{ℕ_discrete, dec_lt}
 use native.Mathlib.Omega.{arith}
 use lib.Dec.{ltb}
 use borrow.Author.Tests.{lt-ltb, le-ltb}
+use denote.Ref.{MutBor}
 use Rattle.model.specs.Sides.{Side, confidentiality, integrity}
 use Rattle.model.specs.Coalitions.{Marks, mark, bit}
 use Rattle.model.specs.Grants.{Grant, Under, marks_of, breaks, counts_under}
@@ -19,14 +20,12 @@ use Rattle.words.specs.declared.Rows.{Rows}
 use Rattle.words.specs.FourWords.{RowAt, RowsAt, empty_rows}
 use Rattle.words.specs.Evaluation.{job_of, row_count}
 use Rattle.words.proofs.Names.{rows_enough, rows_most, rows_few, few_coalitions}
-use Rattle.words.proofs.FourWords.{rows_cong, rows_empty}
-use Rattle.planes.specs.Digits.{Digits, Elsewhere}
+use Rattle.words.proofs.FourWords.{row_cong, rows_cong, rows_empty}
+use Rattle.planes.specs.Digits.{Digits, Elsewhere, Raised, Lowered}
 use Rattle.planes.proofs.Planes.{digits_else, digits_cong}
 use Rattle.questions.specs.declared.Relation.{Relation}
 use Rattle.questions.specs.Searching.{from_of, to_of, judge_of}
-use Rattle.stored.specs.declared.Step.{Step}
-use Rattle.stored.specs.declared.Step.TheVariants.{Raise, Lower}
-use Rattle.stored.specs.Stored.{row_of, of_job, more, Stored, Small, RowStepped, before_of, after_of}
+use Rattle.stored.specs.Stored.{row_of, of_job, more, Stored, Small, Steps}
 
 -- numbers that agree are stored alike
 pub stored_cong : (n : ℕ) (planes : List ℕ) (f h : Numbers) → ((s : Side) (c : ℕ) → f s c ≡ h s c) → Stored n planes f → Stored n planes h
@@ -91,39 +90,40 @@ marked-bit n f m s c = by (ltb c (2 ^ n))
     by true = refl
     by false = refl
 
--- a row of numbers whose marked ones are raised, or lowered
-pub stepped_row : (n : ℕ) (f : Numbers) (m : Marks) (s : Side) (row g : ℕ) (marked : Row) (before after : List ℕ) (step : Step) → RowStepped step before row marked after → RowAt (mark n (m s)) g marked
-    → Digits before row g (of_job n (before_of step f m) s) → Digits after row g (of_job n (after_of step f m) s)
-stepped_row n f m s row g marked before after Raise h r d = digits_cong after row g _ (of_job n (more f m) s) (λ c _ _. marked-bit n f m s c) (h.number g (of_job n f s) (mark n (m s)) d r)
-stepped_row n f m s row g marked before after Lower h r d = h.number g (of_job n f s) (mark n (m s)) (digits_cong before row g (of_job n (more f m) s) _ (λ c _ _. sym (marked-bit n f m s c)) d) r
+-- the numbers are raised where they are marked, or lowered
+module _ (of : MutBor (List ℕ) → ℕ → Row → MutBor (List ℕ) → Type 0) (n : ℕ) (m : Marks) (f : Numbers) where
+  same : (s : Side) (c : ℕ) → m s c ≡ false → f s c ≡ more f m s c
+  same s c e = rw e (sym (add-zero (f s c)))
 
-pub stepped_others : (row : ℕ) (marked : Row) (before after : List ℕ) (step : Step) → RowStepped step before row marked after → Elsewhere before row after
-stepped_others row marked before after Raise h = h.others
-stepped_others row marked before after Lower h = h.others
+  pub raises : ((x : MutBor (List ℕ)) (row : ℕ) (marked : Row) (y : MutBor (List ℕ)) → of x row marked y → Raised x.now row marked y.now) → Steps of n m f (more f m)
+  raises each = record {
+    number = λ s row g marked x y p r d. digits_cong y.now row g _ (of_job n (more f m) s) (λ c _ _. marked-bit n f m s c) ((each x row marked y p).number g (of_job n f s) (mark n (m s)) d r);
+    others = λ row marked x y p. (each x row marked y p).others;
+    still = same;
+  }
+
+  pub lowers : ((x : MutBor (List ℕ)) (row : ℕ) (marked : Row) (y : MutBor (List ℕ)) → of x row marked y → Lowered x.now row marked y.now) → Steps of n m (more f m) f
+  lowers each = record {
+    number = λ s row g marked x y p r d. (each x row marked y p).number g (of_job n f s) (mark n (m s)) (digits_cong x.now row g (of_job n (more f m) s) _ (λ c _ _. sym (marked-bit n f m s c)) d) r;
+    others = λ row marked x y p. (each x row marked y p).others;
+    still = λ s c e. sym (same s c e);
+  }
 
 -- ---- a grant's part
 
--- what a grant that counts breaks, and one that doesn't
-module _ (u : Under) (g : Grant) (f : Numbers) (s : Side) (c : ℕ) where
-  part : counts_under u g ≡ true → more f (breaks (marks_of g)) s c ≡ more f (breaks_counting u g) s c
+-- a grant that counts breaks what breaks it, and one that doesn't is broken by none
+module _ (u : Under) (g : Grant) where
+  counted : counts_under u g ≡ true → (s : Side) (c : ℕ) → breaks (marks_of g) s c ≡ breaks_counting u g s c
   unfolding breaks_counting
-  part e = rw e
+  counted e s c = rw e
 
-  no_part : counts_under u g ≡ false → f s c ≡ more f (breaks_counting u g) s c
+  pub part : counts_under u g ≡ true → (n k : ℕ) (s : Side) (x : Row) → RowAt (mark n (breaks (marks_of g) s)) k x → RowAt (mark n (breaks_counting u g s)) k x
+  unfolding mark
+  part e n k s x r = row_cong k _ _ x (λ c _ _. ap (λ b. ltb c (2 ^ n) && b) (counted e s c)) r
+
+  pub no_part : counts_under u g ≡ false → (s : Side) (c : ℕ) → breaks_counting u g s c ≡ false
   unfolding breaks_counting
-  no_part e = rw e (sym (add-zero (f s c)))
-
-  pub part_before : (step : Step) → counts_under u g ≡ true → before_of step f (breaks_counting u g) s c ≡ before_of step f (breaks (marks_of g)) s c
-  part_before Raise e = refl
-  part_before Lower e = sym (part e)
-
-  pub part_after : (step : Step) → counts_under u g ≡ true → after_of step f (breaks (marks_of g)) s c ≡ after_of step f (breaks_counting u g) s c
-  part_after Raise e = part e
-  part_after Lower e = refl
-
-  pub no_step : (step : Step) → counts_under u g ≡ false → before_of step f (breaks_counting u g) s c ≡ after_of step f (breaks_counting u g) s c
-  no_step Raise e = no_part e
-  no_step Lower e = sym (no_part e)
+  no_part e s c = rw e
 
 -- ---- which coalitions are sound by the numbers
 

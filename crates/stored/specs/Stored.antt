@@ -1,16 +1,16 @@
 -- How the numbers of a live ledger are stored (document 02, K5). Assumes nothing: these are definitions.
-use Rattle.std.specs.Prelude.{◌≡◌, cond, List, ℕ, ◌+◌, ◌^◌, ◌<◌, ltb}
+use Rattle.std.specs.Prelude.{◌≡◌, false, cond, List, ℕ, ◌+◌, ◌^◌, ◌<◌, ltb}
+use denote.Ref.{MutBor}
 use Rattle.model.specs.Sides.{Side, confidentiality, integrity}
-use Rattle.model.specs.Coalitions.{Marks, bit}
+use Rattle.model.specs.Coalitions.{Marks, mark, bit}
 use Rattle.model.specs.Live.{Numbers, sound_by}
 use Rattle.model.specs.Grants.{Under, under}
+use Rattle.words.specs.FourWords.{RowAt}
 use Rattle.words.specs.AnyBytes.{term_in}
 use Rattle.words.specs.Evaluation.{job_of}
 use Rattle.counting.specs.declared.Asked.{Asked}
-use Rattle.planes.specs.Digits.{Digits, Raised, Lowered}
+use Rattle.planes.specs.Digits.{Digits, Elsewhere}
 use Rattle.words.specs.declared.Row.{Row}
-use Rattle.stored.specs.declared.Step.{Step}
-use Rattle.stored.specs.declared.Step.TheVariants.{Raise, Lower}
 
 -- the row of numbers of a row of coalitions: those of the see side come first
 abbrev pub row_of : Side → ℕ → ℕ
@@ -33,23 +33,11 @@ more f m s c = f s c + bit (m s c)
 abbrev pub Small : Numbers → Type 0
 Small f = (s : Side) (c : ℕ) → f s c < 128
 
--- a row of numbers after a step
-abbrev pub RowStepped : Step → List ℕ → ℕ → Row → List ℕ → Type 0
-RowStepped Raise = Raised
-RowStepped Lower = Lowered
-
--- the numbers before a step and after it, f with 1 more at each that is marked being one of the two
-abbrev pub before_of : Step → Numbers → Marks → Numbers
-before_of Raise f m = f
-before_of Lower f m = more f m
-
-abbrev pub after_of : Step → Numbers → Marks → Numbers
-after_of Raise f m = more f m
-after_of Lower f m = f
-
--- the stored numbers after a step
-abbrev pub Steps : Step → ℕ → Marks → List ℕ → List ℕ → Type 0
-Steps step n m before after = (f : Numbers) → Stored n before (before_of step f m) → Stored n after (after_of step f m)
+-- What a step does to a row of numbers: f become h, and differ at none but those of the coalitions that m marks.
+pub record Steps (of : MutBor (List ℕ) → ℕ → Row → MutBor (List ℕ) → Type 0) (n : ℕ) (m : Marks) (f h : Numbers) : Type 0 where
+  pub number : (s : Side) (row g : ℕ) (marked : Row) (x y : MutBor (List ℕ)) → of x row marked y → RowAt (mark n (m s)) g marked → Digits x.now row g (of_job n f s) → Digits y.now row g (of_job n h s)
+  pub others : (row : ℕ) (marked : Row) (x y : MutBor (List ℕ)) → of x row marked y → Elsewhere x.now row y.now
+  pub still : (s : Side) (c : ℕ) → m s c ≡ false → f s c ≡ h s c
 
 -- S are the coalitions whose number is 0, of the numbers that are stored
 pub record SoundStored (planes : List ℕ) (S : Marks) : Type 0 where

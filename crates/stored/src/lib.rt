@@ -11,7 +11,7 @@ ghost use Rattle.words.specs.FourWords.{RowsAt};
 ghost use Rattle.words.specs.Evaluation.{job_of};
 ghost use Rattle.counting.specs.Counted.{grant_in};
 ghost use Rattle.questions.specs.Searching.{verdict_of, judge_of};
-ghost use Rattle.stored.specs.Stored.{of_job, Stored, Small, RowStepped, Steps, SoundStored, under_asked};
+ghost use Rattle.stored.specs.Stored.{of_job, more, Stored, Small, Steps, SoundStored, under_asked};
 
 use counting::Asked;
 use questions::{Refuter, Relation, Sieve};
@@ -21,58 +21,42 @@ use words::{Row, Rows};
 fn breaking(ledger: &[u8], n: u64, k: usize, g: u64) -> Rows
     ensures { RowsAt (λ s. mark n (breaks (marks_of (grant_in ledger.now k)) s)) g result }
 {
-    let mask = words::low_row(n, g);
-    let all = Rows {
-        see: mask,
-        change: mask,
-    };
+    let all = words::alike(words::low_row(n, g));
     soundness::broken(ledger, k, g, all)
 }
 
-// What is done to the number of each coalition that breaks a grant. Its methods are inlined: where a grant is added or withdrawn it is known which, so that no
-// row is asked.
-#[derive(Clone, Copy, Debug, PartialEq, Eq)]
-pub enum Step {
-    // 1 more.
-    Raise,
-    // 1 less.
-    Lower,
+// Does a step to the numbers of the coalitions that break grant k, on each side, if the grant counts under the label on the day.
+fn count<F: Fn(&mut [u64; 896], usize, Row)>(
+    numbers: &mut [u64; 896],
+    asked: &Asked<'_>,
+    k: usize,
+    step: F,
+)
+    requires { F.IsAlwaysCallable step }
+    ensures { (f h : Numbers) → Steps (λ x row marked y. F.post step x row marked tt y) asked.now.names (breaks_counting (under_asked asked.now) (grant_in asked.now.ledger.now k)) f h → Stored asked.now.names numbers.old f → Stored asked.now.names numbers.new h }
+{
+    if asked.counts(k) {
+        for g in 0..words::row_count(asked.names) {
+            let gone = breaking(asked.ledger, asked.names, k, g);
+            let at = g as usize;
+            step(numbers, at, gone.see);
+            step(numbers, 16 + at, gone.change);
+        }
+    }
 }
 
-impl Step {
-    // Is done to each number of a row that is marked.
-    #[inline(always)]
-    fn row(self, numbers: &mut [u64; 896], row: usize, marked: Row)
-        ensures { RowStepped self numbers.old row marked numbers.new }
-    {
-        match self {
-            Step::Raise => planes::raise(numbers, row, marked),
-            Step::Lower => planes::lower(numbers, row, marked),
-        }
-    }
+// Grant k's part is added, if it counts.
+pub fn count_in(numbers: &mut [u64; 896], asked: &Asked<'_>, k: usize)
+    ensures { (f : Numbers) → Stored asked.now.names numbers.old f → Stored asked.now.names numbers.new (more f (breaks_counting (under_asked asked.now) (grant_in asked.now.ledger.now k))) }
+{
+    count(numbers, asked, k, planes::raise)
+}
 
-    // Is done to each coalition of n names that breaks grant k, on each side.
-    #[inline(always)]
-    fn grant(self, numbers: &mut [u64; 896], ledger: &[u8], n: u64, k: usize)
-        ensures { Steps self n (breaks (marks_of (grant_in ledger.now k))) numbers.old numbers.new }
-    {
-        for g in 0..words::row_count(n) {
-            let gone = breaking(ledger, n, k, g);
-            let at = g as usize;
-            self.row(numbers, at, gone.see);
-            self.row(numbers, 16 + at, gone.change);
-        }
-    }
-
-    // The same, if the grant counts under the label on the day: its part is added, or taken away.
-    #[inline(always)]
-    pub fn counting(self, numbers: &mut [u64; 896], asked: &Asked<'_>, k: usize)
-        ensures { Steps self asked.now.names (breaks_counting (under_asked asked.now) (grant_in asked.now.ledger.now k)) numbers.old numbers.new }
-    {
-        if asked.counts(k) {
-            self.grant(numbers, asked.ledger, asked.names, k);
-        }
-    }
+// And taken away, if it counts.
+pub fn count_out(numbers: &mut [u64; 896], asked: &Asked<'_>, k: usize)
+    ensures { (f : Numbers) → Stored asked.now.names numbers.old (more f (breaks_counting (under_asked asked.now) (grant_in asked.now.ledger.now k))) → Stored asked.now.names numbers.new f }
+{
+    count(numbers, asked, k, planes::lower)
 }
 
 // All numbers become 0.

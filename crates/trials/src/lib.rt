@@ -17,6 +17,7 @@ use soundness::{Chosen, Tested};
 use words::Side;
 
 // Reads a text to codes in a job of n names.
+// Kept: C has a name for each.
 pub fn trials_read_text(n: u64, text: &[u8], codes: &mut [u8]) -> u32
     ensures answered { result ≡ number (read_text n text.now codes.old).answer }
     ensures written { codes.new ≡ (read_text n text.now codes.old).buffer }
@@ -43,6 +44,7 @@ pub fn trials_add_days(date: u32, count: u32) -> u32
 }
 
 // The side that a number stands for: 0 is see, any other change.
+// Kept: C gives a number.
 fn numbered_side(side: u32) -> Side
     ensures { side_of result ≡ side_numbered side }
 {
@@ -63,6 +65,7 @@ fn test_on(
     if !dates::real_date(day) {
         return Err(Refusal::NotReal);
     }
+    // Kept: each call has its own order of refusals, so that reading, counting and choosing are no one function.
     let sizes = ledgers::read_book(ledger, label)?;
     let asked = Asked {
         ledger,
@@ -90,7 +93,7 @@ fn test_number(tested: Result<Tested, Refusal>) -> u32
             if tested.sound {
                 tested.tested as u32
             } else {
-                65536 + tested.tested as u32
+                rights::NO + tested.tested as u32
             }
         }
         Err(why) => rights::refused_number(why),

@@ -1,5 +1,5 @@
 // The calls of a live ledger (document 02, K5), whose head C keeps as four numbers (names, day, grants held, codes of the label) and a text, the label.
-// Kept: C lends the four buffers of a live ledger one by one.
+// Kept: C lends the four buffers of a live ledger one by one, and keeps the head as four numbers.
 ghost use Rattle.std.specs.Prelude.{◌≡◌, List, ℕ, ◌+◌, drop};
 ghost use Rattle.model.specs.Readings.{accepted, refused};
 ghost use Rattle.model.specs.Answers.{number};
@@ -36,6 +36,7 @@ fn replied(head: &mut [u64; 4], text: &mut [u8; 64], reply: Result<Live, Refusal
                 live.held as u64,
                 live.codes as u64,
             ];
+            // Kept: tried without the variable, which the proofs do not cover for a field that is an array.
             let label = live.label;
             *text = label;
             0
@@ -91,6 +92,7 @@ pub fn trials_live_withdraw(
 }
 
 // Does p act for q?
+// Kept: C has a name for each.
 pub fn trials_live_acts_for(
     head: &[u64; 4],
     text: &[u8; 64],

@@ -55,6 +55,7 @@ pub extern "C" fn trials_live_withdraw(
 }
 
 // Does p act for q?
+// Kept: C has a name for each.
 #[unsafe(no_mangle)]
 pub extern "C" fn trials_live_acts_for(
     head: &[u64; 4],

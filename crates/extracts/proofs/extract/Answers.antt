@@ -12,7 +12,7 @@ use Rattle.soundness.proofs.Accepted.{sound-counted}
 use Rattle.extracts.specs.Halves.{blank}
 use Rattle.extracts.proofs.Outcomes.{halves_table, day_refused, size_refused, book_refused, table-written}
 use Rattle.extracts.proofs.extract.Goals as goal
-use Rattle.extracts.proofs.extract.Goals.{Else-buffer-ne1024, In_ok-book}
+use Rattle.extracts.proofs.extract.Goals.{Else-buffer-ne1024, In_ok-sizes}
 
 pub returns-then-not-real_date : goal.returns-then-not-real_date
 returns-then-not-real_date c = day_refused _ _ _ _ (sym c.real_date.ensures ∙ c.if-not-real_date.true)
@@ -30,16 +30,16 @@ real c = sym c.real_date.ensures ∙ c.if-not-real_date.false
 fits : (c : Else-buffer-ne1024) → length c.args.buffer.now ≡ 1024
 fits c = omega arith
 
-pub returns-in_err-book : goal.returns-in_err-book
-returns-in_err-book c =
+pub returns-in_err-sizes : goal.returns-in_err-sizes
+returns-in_err-sizes c =
     let a = c.args in
-    let s = (goal.at.returns-in_err-book c).Else-buffer-ne1024 in
+    let s = (goal.at.returns-in_err-sizes c).Else-buffer-ne1024 in
     let p = err_from_is_err_and c.from_residual.result c.from_residual.ensures.1 in
-    rw (p.1, p.2) (book_refused a.ledger.now a.label.now a.day a.buffer.now (real s) (fits s) _ (refused_book _ _ a.day _ (c.read_book.ensures a.day) _ c.in_err-book.was))
+    rw (p.1, p.2) (book_refused a.ledger.now a.label.now a.day a.buffer.now (real s) (fits s) _ (refused_book _ _ a.day _ (c.read_book.ensures a.day) _ c.in_err-sizes.was))
 
 -- nothing can be refused any more
-book_of : (c : In_ok-book) → AcceptedBook c.args.ledger.now c.args.label.now c.in_ok-book.book.names c.in_ok-book.book.grants
-book_of c = accepted_book _ _ c.args.day _ (c.read_book.ensures c.args.day) _ c.in_ok-book.was
+book_of : (c : In_ok-sizes) → AcceptedBook c.args.ledger.now c.args.label.now c.in_ok-sizes.sizes.names c.in_ok-sizes.sizes.grants
+book_of c = accepted_book _ _ c.args.day _ (c.read_book.ensures c.args.day) _ c.in_ok-sizes.was
 
 -- both halves are 00 before they are marked
 pub mark_sound-requires : goal.mark_sound-requires
@@ -54,8 +54,8 @@ pub returns : goal.returns
 returns c =
     let a = c.args in
     let s = (goal.at.returns c).Else-buffer-ne1024 in
-    let b = book_of (goal.at.returns c).In_ok-book in
-    let n = c.in_ok-book.book.names in
+    let b = book_of (goal.at.returns c).In_ok-sizes in
+    let n = c.in_ok-sizes.sizes.names in
     table-written a.ledger.now a.label.now a.day a.buffer.now (real s) (fits s) b.book (under n b.L a.day) _ (b.is a.day)
     (halves_table c.mark_sound.ensures
     ∙ table_cong _ _ _ (λ s d _. sound-counted _ _ _ _ _ _ _ b.L b.of b.label_is c.counted.ensures s d)

@@ -20,11 +20,11 @@ few c = omega (arith, c.row_count-rows.ensures, rows_few c.args.n)
 
 pub put_row-requires : goal.put_row-requires
 put_row-requires c =
-    (few (goal.at.put_row-requires c).In-loop-g, c.loop-g.invariant.0.0)
+    omega (arith, few (goal.at.put_row-requires c).In-loop-g, c.loop-g.invariant.0.0)
 
 pub put_row-requires-in-loop-g : goal.put_row-requires-in-loop-g
 put_row-requires-in-loop-g c =
-    (few (goal.at.put_row-requires-in-loop-g c).In-loop-g, c.loop-g.invariant.0.1)
+    omega (arith, few (goal.at.put_row-requires-in-loop-g c).In-loop-g, c.loop-g.invariant.0.1)
 
 pub loop-g-preserved : goal.loop-g-preserved
 loop-g-preserved c =

@@ -38,4 +38,4 @@ returns-clause-stepped c x h =
     let rewritten = c.append.ensures x.blocks (kept_live _ _ _ x h) h.held room (block_read _ _ g.value g.is).size in
     let part' : breaks_counting (under (job_of a.live.names) (term_in c.label.result.now) a.live.day) (grant_in c.part-written.result.now a.live.held) ≡ breaks_counting x.asked g.value =
     part_is _ _ _ _ (asked_live _ _ _ x h _ c.label.ensures) (new_grant _ _ _ _ x h g.value g.is room _ rewritten _ c.part-written.ensures) in
-    add_done _ _ _ _ x h g.value g.is room _ rewritten _ (subst (λ (m : Marks). Stored a.live.names c.counting.new.numbers (more x.numbers m)) part' (c.counting.ensures x.numbers (stored_live _ _ _ x h)))
+    add_done _ _ _ _ x h g.value g.is room _ rewritten _ (subst (λ (m : Marks). Stored a.live.names c.count_in.new.numbers (more x.numbers m)) part' (c.count_in.ensures x.numbers (stored_live _ _ _ x h)))

@@ -29,4 +29,4 @@ returns-clause-stepped c x h =
     part_is _ _ _ _ (asked_live _ _ _ x h _ c.label.ensures) (gone_grant _ _ _ a.k x h g t.is _ below c.part-written.ensures) in
     let f = (shrunk x a.k g).numbers in
     withdraw_done _ _ _ a.k x h g t.is _ _ below (c.remove.ensures x.blocks (kept_live _ _ _ x h) h.held below)
-    (c.counting.ensures f (subst (λ (m : Marks). Stored a.live.names a.numbers.now (more f m)) (sym part') (gone_part _ _ _ a.k x h g t.is)))
+    (c.count_out.ensures f (subst (λ (m : Marks). Stored a.live.names a.numbers.now (more f m)) (sym part') (gone_part _ _ _ a.k x h g t.is)))

@@ -7,6 +7,6 @@ use Rattle.stored.proofs.breaking.Goals as goal
 pub returns : goal.returns
 unfolding mark
 returns c =
-    let mask = c.low_row-mask.ensures in
+    let mask = c.low_row.ensures in
     let n = c.args.n in
-    c.broken.ensures (λ s c. ltb c (2 ^ n)) (rows_of _ (λ s c. ltb c (2 ^ n)) _ _ mask mask)
+    c.broken.ensures (λ s c. ltb c (2 ^ n)) (rw c.alike-all.ensures (rows_of _ (λ s c. ltb c (2 ^ n)) _ _ mask mask))

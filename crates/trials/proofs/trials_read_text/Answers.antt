@@ -3,7 +3,7 @@ use mathlib.Core.Path.{sym, ap, ◌∙◌}
 use native.Mathlib.Omega.{arith}
 use Rattle.model.specs.Answers.{Outcome}
 use Rattle.model.proofs.Notation.{text_few}
-use Rattle.trials.proofs.Fitting.{fits}
+use Rattle.rights.proofs.Fitting.{fits}
 use Rattle.trials.proofs.trials_read_text.Goals as goal
 
 pub written_number-requires : goal.written_number-requires

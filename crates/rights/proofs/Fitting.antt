@@ -1,4 +1,4 @@
--- What is written at most so many bytes long fits the figure of a number; the number of a sum. Assumes nothing.
+-- What is written at most so many bytes long fits the figure of a number. Assumes nothing.
 use Rattle.std.specs.Prelude.{◌≡◌, ℕ, ◌^◌, ◌≤◌, ◌<◌, Result, Ok, Err, IfOk, refl}
 use native.Mathlib.Omega.{arith}
 use Rattle.model.specs.Answers.{Written}

@@ -224,6 +224,7 @@ fn input_start(unpacked: &[u8], k: usize) -> usize
     ensures value { result ≡ input_start k unpacked.now }
     ensures least { 52 ≤ result }
 {
+    // Kept: tried as a `sum` of the lengths: neither its bound nor its equation closed.
     let mut at: usize = 52;
     for i in 0..k {
         at += input_length(unpacked, i) as usize;

@@ -210,7 +210,8 @@ fn unpack(packed: &[u8], to: &mut [u8]) -> Option<usize>
 
 // Case R: the parts of a record, and the call.
 
-// The length of input k: 0 the ledger, 1 p (of a short form and of writing, the term; of reading, the text; of a list, its calls), 2 q, 3 the label, 4 the derivation.
+// The length of input k: 0 the ledger, 1 p (of a short form and of writing, the term; of reading, the text; of a list, its calls), 2 q, 3 the label,
+// 4 the derivation.
 fn input_length(unpacked: &[u8], k: usize) -> u32
     requires { k < 5 }
     ensures { result ≡ input_length k unpacked.now }
@@ -224,6 +225,7 @@ fn input_start(unpacked: &[u8], k: usize) -> usize
     ensures value { result ≡ input_start k unpacked.now }
     ensures least { 52 ≤ result }
 {
+    // Kept: tried as a `sum` of the lengths: neither its bound nor its equation closed.
     let mut at: usize = 52;
     for i in 0..k {
         at += input_length(unpacked, i) as usize;

@@ -122,15 +122,6 @@ impl StepRefusal {
     }
 }
 
-// A field that the rule doesn't use is 00.
-#[tactic(auto, unfolding(crate::specs::Steps::fields_form))]
-fn fields_form(rule: Rule, step: &[u8; 136]) -> bool
-    ensures { result ≡ fields_form (rule_is rule) step.now }
-{
-    let uses = rule.uses();
-    (uses.first || step[1] == 0) && (uses.second || step[2] == 0) && (uses.grant || step[3] == 0)
-}
-
 // Bytes 6 and 7, and what is past the terms. A length over 64 has no filler.
 #[tactic(auto, unfolding(crate::specs::Steps::filler_form))]
 fn filler_form(step: &[u8; 136]) -> bool
@@ -139,11 +130,97 @@ fn filler_form(step: &[u8; 136]) -> bool
     fields::filler(&step[6..8]) && LEFT.rest_is_filler(step) && RIGHT.rest_is_filler(step)
 }
 
-// The form of a step of that rule.
-fn step_form(rule: Rule, step: &[u8; 136]) -> bool
-    ensures { result ≡ step_form (rule_is rule) step.now }
+// A premise that the rule uses is a step before step k.
+// Kept: whether it is used stands beside the byte, since a step has the byte in any case; an Option of it was no plainer.
+fn earlier(used: bool, premise: u8, k: usize) -> bool
+    ensures { result ≡ before used premise k }
 {
-    fields_form(rule, step) && filler_form(step)
+    !used || (premise as usize) < k
+}
+
+// The ledger of a derivation, once it is read, and which of its grants count: bit g says whether grant g does.
+// Kept: `soundness::Chosen` has the same but for the names, which are asked here, and its tests are of coalitions: with it this would be no plainer.
+#[derive(Clone, Copy)]
+struct Book<'a> {
+    ledger: &'a [u8],
+    sizes: Sizes,
+    counted: u64,
+}
+
+// A step, and the rule that its first byte says.
+#[derive(Clone, Copy)]
+struct Step<'a> {
+    rule: Rule,
+    bytes: &'a [u8; 136],
+}
+
+impl Step<'_> {
+    // A field that the rule doesn't use is 00.
+    #[tactic(auto, unfolding(crate::specs::Steps::fields_form))]
+    fn fields_form(&self) -> bool
+        ensures { result ≡ fields_form (rule_is self.now.rule) self.now.bytes.now }
+    {
+        let uses = self.rule.uses();
+        (uses.first || self.bytes[1] == 0)
+            && (uses.second || self.bytes[2] == 0)
+            && (uses.grant || self.bytes[3] == 0)
+    }
+
+    // The form of the step.
+    fn form(&self) -> bool
+        ensures { result ≡ step_form (rule_is self.now.rule) self.now.bytes.now }
+    {
+        self.fields_form() && filler_form(self.bytes)
+    }
+
+    // Both premises that the rule uses are before step k.
+    fn premises_before(&self, k: usize) -> bool
+        ensures { result ≡ premises_before (rule_is self.now.rule) self.now.bytes.now k }
+    {
+        let uses = self.rule.uses();
+        earlier(uses.first, self.bytes[1], k) && earlier(uses.second, self.bytes[2], k)
+    }
+
+    // There is such a grant as the rule uses, and it counts.
+    fn check_grant(&self, book: Book<'_>) -> Result<(), StepRefusal>
+        ensures { step_reading result ≡ grant_check (rule_is self.now.rule) self.now.bytes.now book.entry.sizes.grants book.entry.counted }
+    {
+        if !self.rule.uses().grant {
+            return Ok(());
+        }
+        let grant = self.bytes[3] as usize;
+        if book.sizes.grants <= grant {
+            return Err(StepRefusal::Grant);
+        }
+        if !words::bit_set(book.counted, grant) {
+            return Err(StepRefusal::Uncounted);
+        }
+        Ok(())
+    }
+
+    // The step meets its rule, its terms being read and its grant being there.
+    fn meets(&self, derivation: &[u8], book: Book<'_>) -> bool
+        ensures { (l : Ledger) → Ready book.entry.ledger.now book.entry.sizes.names (rule_is self.now.rule) self.now.bytes.now l → result ≡ meets l (rule_is self.now.rule) self.now.bytes.now (step_at derivation.now (byte 1 self.now.bytes.now)) (step_at derivation.now (byte 2 self.now.bytes.now)) }
+    {
+        let step = self.bytes;
+        let a = step_at(derivation, step[1] as usize);
+        let b = step_at(derivation, step[2] as usize);
+        match self.rule {
+            Rule::Static => {
+                questions::acts_statically(book.sizes.names, rules::left(step), rules::right(step))
+            }
+            Rule::Granted => {
+                let grant = step[3] as usize;
+                let p = ledgers::grant_term(book.ledger, grant, ledgers::P);
+                let q = ledgers::grant_term(book.ledger, grant, ledgers::Q);
+                rules::has_terms(step, p, q)
+            }
+            Rule::Transitive => rules::transitive(step, a, b),
+            Rule::Conjunction => rules::conjunction(step, a, b),
+            Rule::Disjunction => rules::disjunction(step, a, b),
+            Rule::Projection(side) => rules::projects(side, step, a),
+        }
+    }
 }
 
 // A term of a step, `why` being the refusal where it is none: its length is at most that of its field.
@@ -163,82 +240,19 @@ fn read_field(
 }
 
 // The step by itself, its form and its terms: its rule.
-fn read_step(step: &[u8; 136], n: u64) -> Result<Rule, StepRefusal>
-    ensures { rule_reading result ≡ read_step n (rule_of (byte 0 step.now)) step.now }
+fn read_step(bytes: &[u8; 136], n: u64) -> Result<Rule, StepRefusal>
+    ensures { rule_reading result ≡ read_step n (rule_of (byte 0 bytes.now)) bytes.now }
 {
-    let Some(rule) = Rule::of(step[0]) else {
+    let Some(rule) = Rule::of(bytes[0]) else {
         return Err(StepRefusal::Form);
     };
-    if !step_form(rule, step) {
+    let step = Step { rule, bytes };
+    if !step.form() {
         return Err(StepRefusal::Form);
     }
-    read_field(step, LEFT, n, StepRefusal::Left)?;
-    read_field(step, RIGHT, n, StepRefusal::Right)?;
+    read_field(bytes, LEFT, n, StepRefusal::Left)?;
+    read_field(bytes, RIGHT, n, StepRefusal::Right)?;
     Ok(rule)
-}
-
-// A premise that the rule uses is a step before step k.
-// Kept: whether it is used stands beside the byte, since a step has the byte in any case; an Option of it was no plainer.
-fn earlier(used: bool, premise: u8, k: usize) -> bool
-    ensures { result ≡ before used premise k }
-{
-    !used || (premise as usize) < k
-}
-
-// Both premises are.
-fn premises_before(rule: Rule, step: &[u8; 136], k: usize) -> bool
-    ensures { result ≡ premises_before (rule_is rule) step.now k }
-{
-    let uses = rule.uses();
-    earlier(uses.first, step[1], k) && earlier(uses.second, step[2], k)
-}
-
-// The ledger of a derivation, once it is read, and which of its grants count: bit g says whether grant g does.
-#[derive(Clone, Copy)]
-struct Book<'a> {
-    ledger: &'a [u8],
-    sizes: Sizes,
-    counted: u64,
-}
-
-// There is such a grant as the rule uses, and it counts.
-fn check_grant(rule: Rule, step: &[u8; 136], book: Book<'_>) -> Result<(), StepRefusal>
-    ensures { step_reading result ≡ grant_check (rule_is rule) step.now book.entry.sizes.grants book.entry.counted }
-{
-    if !rule.uses().grant {
-        return Ok(());
-    }
-    let grant = step[3] as usize;
-    if book.sizes.grants <= grant {
-        return Err(StepRefusal::Grant);
-    }
-    if !words::bit_set(book.counted, grant) {
-        return Err(StepRefusal::Uncounted);
-    }
-    Ok(())
-}
-
-// The step meets its rule, its terms being read and its grant being there.
-fn meets(rule: Rule, derivation: &[u8], step: &[u8; 136], book: Book<'_>) -> bool
-    ensures { (l : Ledger) → Ready book.entry.ledger.now book.entry.sizes.names (rule_is rule) step.now l → result ≡ meets l (rule_is rule) step.now (step_at derivation.now (byte 1 step.now)) (step_at derivation.now (byte 2 step.now)) }
-{
-    let a = step_at(derivation, step[1] as usize);
-    let b = step_at(derivation, step[2] as usize);
-    match rule {
-        Rule::Static => {
-            questions::acts_statically(book.sizes.names, rules::left(step), rules::right(step))
-        }
-        Rule::Granted => {
-            let grant = step[3] as usize;
-            let p = ledgers::grant_term(book.ledger, grant, ledgers::P);
-            let q = ledgers::grant_term(book.ledger, grant, ledgers::Q);
-            rules::has_terms(step, p, q)
-        }
-        Rule::Transitive => rules::transitive(step, a, b),
-        Rule::Conjunction => rules::conjunction(step, a, b),
-        Rule::Disjunction => rules::disjunction(step, a, b),
-        Rule::Projection(side) => rules::projects(side, step, a),
-    }
 }
 
 // Step k of the derivation.
@@ -246,13 +260,14 @@ fn check_step(derivation: &[u8], k: usize, book: Book<'_>) -> Result<(), StepRef
     requires { 136 * (k + 1) ≤ length derivation.now }
     ensures { (l : Ledger) (f : Grant → Bool) → BookOf book.entry.ledger.now book.entry.sizes book.entry.counted l f → step_reading result ≡ check_at l f derivation.now k }
 {
-    let step = whole_step(derivation, k);
-    let rule = read_step(step, book.sizes.names)?;
-    if !premises_before(rule, step, k) {
+    let bytes = whole_step(derivation, k);
+    let rule = read_step(bytes, book.sizes.names)?;
+    let step = Step { rule, bytes };
+    if !step.premises_before(k) {
         return Err(StepRefusal::Premise);
     }
-    check_grant(rule, step, book)?;
-    if !meets(rule, derivation, step, book) {
+    step.check_grant(book)?;
+    if !step.meets(derivation, book) {
         return Err(StepRefusal::Rule);
     }
     Ok(())
@@ -276,6 +291,7 @@ impl From<Refusal> for DerivationRefusal {
 }
 
 // The steps, one after another.
+// Kept: k is asked itself, for the premises before it and for the refusal, so that pieces with their numbers would be no plainer.
 fn check_steps(derivation: &[u8], book: Book<'_>) -> Result<(), DerivationRefusal>
     requires { length derivation.now ≤ 8704 }
     ensures { (l : Ledger) (f : Grant → Bool) → BookOf book.entry.ledger.now book.entry.sizes book.entry.counted l f → checked_of result ≡ check_steps l f derivation.now 0 (step_count derivation.now) }

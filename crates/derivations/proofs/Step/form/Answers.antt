@@ -1,6 +1,6 @@
 use Rattle.std.proofs.Common.{rules}
 use Rattle.derivations.proofs.Rules.{form_is}
-use Rattle.derivations.proofs.step_form.Goals as goal
+use Rattle.derivations.proofs.Step.form.Goals as goal
 
 pub returns-then-fields_form : goal.returns-then-fields_form
 returns-then-fields_form c = rw form_is (search rules)

@@ -1,7 +1,7 @@
 -- The rules that the ledger decides.
 use mathlib.Core.Path.{◌∙◌}
 use Rattle.derivations.proofs.Meeting.{static_met, grant_met}
-use Rattle.derivations.proofs.meets.Goals as goal
+use Rattle.derivations.proofs.Step.meets.Goals as goal
 
 pub returns-in-Static : goal.returns-in-Static
 returns-in-Static c = rw c.in-Static.is (λ l ready. static_met _ _ _ l _ _ _ ready (c.acts_statically.ensures ∙ rw (c.left.ensures, c.right.ensures)))

@@ -218,7 +218,7 @@ impl Step<'_> {
             Rule::Transitive => rules::transitive(step, a, b),
             Rule::Conjunction => rules::conjunction(step, a, b),
             Rule::Disjunction => rules::disjunction(step, a, b),
-            Rule::Projection(side) => rules::projects(side, step, a),
+            Rule::Projection(side) => rules::projection(side, step, a),
         }
     }
 }

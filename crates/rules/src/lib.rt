@@ -151,13 +151,19 @@ fn code_of(side: Side) -> u8
     }
 }
 
-// Rules 6 and 7: p and q are the side's code before the terms of the premise.
-#[tactic(auto, unfolding(model::specs::Derivations::meets))]
-pub fn projects(side: Side, step: &[u8], a: &[u8]) -> bool
-    ensures { (l : Ledger) (b : List ℕ) → result ≡ meets l (projection (side_of side)) step.now a.now b }
+// The step's terms are a code before those of the premise.
+pub fn projects(code: u8, step: &[u8], a: &[u8]) -> bool
+    ensures { result ≡ (same (left step.now) (code ∷ left a.now) && same (right step.now) (code ∷ right a.now)) }
 {
-    let code = code_of(side);
     let whole = Terms::of(step);
     let first = Terms::of(a);
     code_then(whole.left, code, first.left) && code_then(whole.right, code, first.right)
+}
+
+// Rules 6 and 7: the code is that of the side.
+#[tactic(auto, unfolding(model::specs::Derivations::meets))]
+pub fn projection(side: Side, step: &[u8], a: &[u8]) -> bool
+    ensures { (l : Ledger) (b : List ℕ) → result ≡ meets l (projection (side_of side)) step.now a.now b }
+{
+    projects(code_of(side), step, a)
 }

@@ -43,6 +43,7 @@ pub trait Sieve {
 }
 
 // Row g of the coalitions of n names that refute, were they sound: those that hold p and not q, and for flows-to, on the see side, q and not p.
+// Kept: relation, n, p and q go on as they came, here and in those that ask: a value of them would be made by each and taken apart here.
 fn opposed(relation: Relation, n: u64, p: &[u8], q: &[u8], g: u64) -> Rows
     ensures { RowsAt (opposed_of relation n (term_in p.now) (term_in q.now)) g result }
 {

@@ -90,6 +90,7 @@ fn shape_of(code: u8, n: u64) -> Shape
 }
 
 // The part that starts at `at` is a single code.
+// Kept: of codes, a place and n, here and below, only the place goes on: a value of the three would be made anew for each part.
 #[tactic(auto, using(crate::proofs::Places::part_whole))]
 fn single(codes: &[u8], at: usize, n: u64) -> bool
     ensures { result ≡ true → part_at codes.now at n ≡ accepted (at + 1) }

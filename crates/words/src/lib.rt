@@ -173,6 +173,8 @@ pub struct Held {
 }
 
 // There is a name at the place.
+// Kept: of codes and a place, here and below, only the place goes on, and the promises count it from the first code: the rest of the codes in their stead
+// would make them no plainer.
 fn is_name(codes: &[u8], at: usize) -> bool
     ensures { result ≡ (ltb at (length codes.now) && ltb (get_or codes.now at 0) 12) }
 {
@@ -251,6 +253,7 @@ pub fn hold(codes: &[u8], at: usize, g: u64) -> Held
     }
     // What is left over goes to `hold_quorum`, so that quorums cost the other codes no test. Its result is taken apart: handed on whole, that of every code
     // would go through memory.
+    // Kept: a single arm for the two projections would ask once more which side it is.
     match code {
         0x21 => Held {
             next,

@@ -24,7 +24,7 @@ pub enum Side {
 }
 
 // A row of a set of coalitions: its four words, lowest first.
-// Kept: four fields can stay in registers, where an array of four words may go through memory at each call. The array was not measured.
+// Kept: the definitions name the four words one by one, and `each_word` is what is done to each: an array would have an index for each name and be no plainer.
 #[derive(Clone, Copy, Debug, PartialEq, Eq)]
 pub struct Row {
     pub a: u64,

@@ -1,7 +1,8 @@
 -- What the loops over coalitions and sizes keep. Assumes nothing.
 use mathlib.Core.Path.{◌≡◌, refl, sym, ap, ◌∙◌, subst}
-use Prim.Native.Nat.{ℕ, ◌+◌, ◌-◌, ◌*◌, ◌%◌, ◌^◌, ◌≤◌, max, min}
+use Prim.Native.Nat.{ℕ, ◌+◌, ◌-◌, ◌*◌, ◌%◌, ◌^◌, ◌≤◌, ◌<◌, max, min}
 use native.Mathlib.Numerals.{add-one}
+use borrow.Author.Tests.{eq-eqb}
 use native.Mathlib.Nat.{add-zero, zero-add}
 use native.Mathlib.Omega.{arith}
 use mathlib.Core.Bool.{Bool, true, false, cond}
@@ -13,10 +14,10 @@ use Rattle.std.proofs.lemmas.Iterator.{YieldsList}
 use Rattle.std.specs.declared.ops.RangeInclusive.{RangeInclusive}
 use Rattle.std.proofs.Common.{Option, filter, fold, length, eqb, zero, suc, ◌⊎◌, inl, inr}
 use lib.Pow.{pow_mono}
-use Rattle.model.specs.Coalitions.{those}
+use Rattle.model.specs.Coalitions.{bit, those}
 use Rattle.model.specs.Layers.{size, layer, largest, largest_layer}
 use Rattle.model.proofs.Packed.{shifted}
-use Rattle.sperner.proofs.Counts.{count_cong}
+use Rattle.sperner.proofs.Counts.{count, count-suc, count_cong}
 use Rattle.sperner.proofs.Sizes.{of_size, ones_size}
 
 -- ---- the coalitions of one size
@@ -35,6 +36,14 @@ counted_layer n k =
     ap length (filtered (λ c. eqb (size 64 c) k) 0 (2 ^ min n 12))
     ∙ count_cong (λ c. eqb (size 64 c) k) (of_size (min n 12) k) (2 ^ min n 12) (λ c below.
     ap (λ (s : ℕ). eqb s k) (sym (ones_size 64 c (omega (arith, pow_mono few))) ∙ ones_size (min n 12) c below))
+
+-- and with one more of k members there is one more to count
+pub counts_in_lem : (n k c found r : ℕ) → c < 2 ^ min n 12 → r ≡ size 64 c → found ≡ count (of_size (min n 12) k) c → r ≡ k → found + 1 ≡ count (of_size (min n 12) k) (c + 1)
+counts_in_lem n k c found r below sized so_far e =
+    let few : min n 12 ≤ 64 = omega arith in
+    let names : size 64 c ≡ size (min n 12) c = sym (ones_size 64 c (omega (arith, pow_mono few))) ∙ ones_size (min n 12) c below in
+    let one : bit (of_size (min n 12) k c) ≡ 1 = ap bit (eq-eqb (size (min n 12) c) k (sym names ∙ sym sized ∙ e)) in
+    omega (arith, count-suc (of_size (min n 12) k) c, ap (count (of_size (min n 12) k)) (add-one c))
 
 pub power_fits : (n : ℕ) → 1 * 2 ^ min n 12 % 2 ^ 64 ≡ 2 ^ min n 12
 power_fits n = shifted (min n 12) (omega arith)

@@ -31,8 +31,17 @@ is_rule_lem (suc (suc (suc (suc (suc (suc (suc zero))))))) = refl
 is_rule_lem (suc (suc (suc (suc (suc (suc (suc (suc r)))))))) = past (suc (suc (suc (suc (suc (suc (suc (suc r)))))))) (omega arith)
   where
     past : (r : ℕ) → 7 < r → is_rule (rule_of r) ≡ (leb 1 r && leb r 7)
-    past r h = simp (ne_eqb r 1 (λ e. omega arith), ne_eqb r 2 (λ e. omega arith), ne_eqb r 3 (λ e. omega arith), ne_eqb r 4 (λ e. omega arith), ne_eqb r 5 (λ e. omega arith),
-        ne_eqb r 6 (λ e. omega arith), ne_eqb r 7 (λ e. omega arith), lt-leb r 7 h, and-false (leb 1 r))
+    past r h = simp (
+      ne_eqb r 1 (λ e. omega arith),
+      ne_eqb r 2 (λ e. omega arith),
+      ne_eqb r 3 (λ e. omega arith),
+      ne_eqb r 4 (λ e. omega arith),
+      ne_eqb r 5 (λ e. omega arith),
+      ne_eqb r 6 (λ e. omega arith),
+      ne_eqb r 7 (λ e. omega arith),
+      lt-leb r 7 h,
+      and-false (leb 1 r),
+    )
 
 -- each case is a rule
 a_rule : (rule : CodeRule) → is_rule (rule_is rule) ≡ true

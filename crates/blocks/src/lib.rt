@@ -36,7 +36,7 @@ fn put_count(ledger: &mut [u8; 33280], n: u8, count: usize)
 }
 
 // The ledger of n names without grants.
-// Kept: C lends the ledger's bytes alone; n and how many grants are held stand in the head.
+// Kept: here and below, C lends the ledger's bytes alone; n and how many grants are held stand in the head.
 pub fn begin(ledger: &mut [u8; 33280], n: u8)
     ensures { length ledger.old ≡ 33280 → n ≤ 12 → Rewritten ledger.old n [] ledger.new }
 {

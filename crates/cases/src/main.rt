@@ -13,6 +13,7 @@ use std::{fs, io};
 use trials::live_calls;
 
 // Kind 2 of an answer, refused, without its figure.
+// Kept: the cases give document 01's numbers themselves, here and below, and take none from the engine.
 const REFUSED: u32 = 131072;
 
 // What a buffer holds before a call of K or L.
@@ -270,6 +271,7 @@ enum Call {
 
 impl Operation {
     // The operation of that number in the file: none, where there is none.
+    // Kept: an Option, where `TryFrom` would need an error with nothing to say.
     fn of(number: u32) -> Option<Self> {
         Some(match number {
             0 => Operation::Call(Call::ActsFor),

@@ -83,7 +83,7 @@ pub fn add_days(date: u32, count: u32) -> Result<u32, Refusal>
 }
 
 // A grant's edge: a real date, or 0 for none.
-// Kept: 0 is what a grant's bytes say of no edge, here and below.
+// Kept: 0 is what a grant's bytes say of no edge, here and below: an Option would be made at each reading and taken apart here.
 #[tactic(auto, unfolding(model::specs::Dates::date_or_none))]
 pub fn date_or_none(edge: u32) -> bool
     ensures { result ≡ date_or_none edge }

@@ -55,6 +55,7 @@ struct Uses {
 
 impl Rule {
     // The rules by their numbers, 1 to 7: the last two are one over the side.
+    // Kept: an Option, where `TryFrom` would need an error with nothing to say.
     #[tactic(auto, unfolding(model::specs::Derivations::rule_of))]
     fn of(byte: u8) -> Option<Rule>
         ensures { rule_or_none result ≡ rule_of byte }
@@ -107,6 +108,7 @@ pub enum StepRefusal {
 
 impl StepRefusal {
     // The number that the refusal is to C.
+    // Kept: by this name a reader sees what the byte is, as `From` would not say.
     pub fn number(self) -> u8
         ensures { result ≡ step_number self }
     {
@@ -304,6 +306,7 @@ fn check_steps(derivation: &[u8], book: Book<'_>) -> Result<(), DerivationRefusa
 }
 
 // Checks a derivation. The grants that count are judged once.
+// Kept: here and below, C lends ledger, label and day one by one, and they go on as they came.
 pub fn check_derivation(
     derivation: &[u8],
     ledger: &[u8],
@@ -359,7 +362,7 @@ fn quoted<'a>(
 }
 
 // The same; an empty part where there is none.
-// Kept: its promise is on bytes, of which a caller needs no more; `quoted` has the Option.
+// Kept: its promise is that of document 01, on bytes, where no step is an empty part; `quoted` has the Option.
 pub fn quote<'a>(derivation: &[u8], ledger: &'a [u8], label: &[u8], day: u32, step: u64) -> &'a [u8]
     ensures { result.now ≡ quote derivation.now ledger.now label.now day step }
 {

@@ -46,6 +46,7 @@ fn mark_sound(chosen: &Chosen<'_>, n: u64, see: &mut [u8], change: &mut [u8])
 }
 
 // Writes the extract of a ledger under a label on a day. The buffer is written once nothing can be refused any more.
+// Kept: C lends ledger, label and day one by one, and they go on as they came.
 pub fn extract(ledger: &[u8], label: &[u8], day: u32, buffer: &mut [u8]) -> Result<(), Refusal>
     ensures { outcome_of result buffer.new ≡ extract ledger.now label.now day buffer.old }
 {
@@ -55,7 +56,7 @@ pub fn extract(ledger: &[u8], label: &[u8], day: u32, buffer: &mut [u8]) -> Resu
     if buffer.len() != 1024 {
         return Err(Refusal::ExtractLength);
     }
-    // Kept: each call has its own order of refusals, so that reading, counting and choosing are no one function.
+    // Kept: what follows is the same in two calls, which need n and what is chosen: a pair of the two would be taken apart at once.
     let sizes = ledgers::read_book(ledger, label)?;
     let asked = Asked {
         ledger,

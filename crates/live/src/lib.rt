@@ -155,7 +155,7 @@ fn ask(
 }
 
 // Does p act for q?
-// Kept: C has a call for each of the two questions.
+// Kept: a name for each of the two questions, over `ask`: with the relation as an argument each caller would name it.
 #[tactic(auto, unfolding(model::specs::Live::step))]
 pub fn acts_for(
     live: Live,

@@ -60,6 +60,7 @@ fn ends_in(text: &[u8], end: usize, c: u8) -> bool
 }
 
 // The number that the first `end` characters end with: the last digit, and ten more where a 1 stands before it.
+// Kept: it is read from its end, and where it begins is not known, so that there is no part to parse.
 fn read_number(text: &[u8], end: usize) -> Option<Numeral>
     requires { end ≤ length text.now }
     ensures { result ≡ numeral_of (read_number (backward text.now end)) }
@@ -85,7 +86,6 @@ fn read_number(text: &[u8], end: usize) -> Option<Numeral>
     })
 }
 
-// Kept: n and the text in one value would take one parameter of six from the readers below, and two words more in each of their clauses.
 // Ends the reading of `many` places, whose codes start at `to`. Their opening bracket stands behind the first `end` characters: where a number stands before it
 // they are those of a quorum, and k, m and its code are put before theirs; otherwise it is one place, a text in brackets.
 fn read_opening(

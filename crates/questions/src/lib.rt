@@ -233,6 +233,7 @@ pub fn acts_statically(n: u64, p: &[u8], q: &[u8]) -> bool
 }
 
 // A question on bytes and a day: 86 for the day, then the ledger's refusals, p's, q's and the label's. The answer is the first refuter, or none, which is yes.
+// Kept: C lends ledger, label and day one by one, and they go on as they came.
 fn ask(
     relation: Relation,
     ledger: &[u8],
@@ -265,7 +266,7 @@ fn ask(
 }
 
 // Does p act for q under the label, on the day?
-// Kept: C has a call for each of the two questions.
+// Kept: a name for each of the two questions, over `ask`: with the relation as an argument each caller would name it.
 pub fn acts_for(
     ledger: &[u8],
     p: &[u8],

@@ -17,6 +17,7 @@ pub enum TermRefusal {
 
 impl TermRefusal {
     // 1 to 4.
+    // Kept: by this name, here and below, a reader sees what the byte is, as `From` would not say.
     pub fn number(self) -> u8
         ensures { result ≡ term_number self }
     {

@@ -21,6 +21,7 @@ use refusals::Refusal;
 use words::Side;
 
 // Kinds 1 and 2 of a number, without the figure: no, and refused.
+// Kept: C gets numbers.
 pub const NO: u32 = 65536;
 
 pub const REFUSED: u32 = 131072;
@@ -78,7 +79,7 @@ fn checked_number(checked: Result<(), DerivationRefusal>) -> u32
 }
 
 // Does p act for q under the label, on the day?
-// Kept: C has a call for each of the two questions.
+// Kept: the two are what the calls of C by these names do.
 pub fn rights_acts_for(ledger: &[u8], p: &[u8], q: &[u8], label: &[u8], day: u32) -> u32
     ensures { result ≡ number (acts_for ledger.now p.now q.now label.now day) }
 {

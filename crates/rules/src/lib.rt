@@ -47,7 +47,7 @@ fn code_then_two(s: &[u8], code: u8, a: &[u8], b: &[u8]) -> bool
 }
 
 // A step's p and its q, parts of the step.
-// Kept: a term is also read alone, as two arguments of one call; a pair for the two would be taken apart again.
+// Kept: the static test takes the two as its two arguments; a pair of them would be taken apart there.
 pub fn left(step: &[u8]) -> &[u8]
     ensures { result.now ≡ left step.now }
 {
@@ -142,6 +142,7 @@ pub fn disjunction(step: &[u8], a: &[u8], b: &[u8]) -> bool
 }
 
 // The code of a projection to a side.
+// Kept: by this name a reader sees what the byte is, as `From` would not say.
 fn code_of(side: Side) -> u8
     ensures { result ≡ project_code (side_of side) }
 {

@@ -20,6 +20,7 @@ pub enum Joiner {
 
 impl Joiner {
     // The joiner whose code this is, if it is one's.
+    // Kept: an Option, where `TryFrom` would need an error with nothing to say.
     pub fn of(code: u8) -> Option<Joiner>
         ensures { result ≡ joiner_at code }
     {
@@ -35,6 +36,7 @@ impl Joiner {
         }
     }
 
+    // Kept: by this name, here and below, a reader sees what the byte is, as `From` would not say.
     pub fn code(self) -> u8
         ensures { result ≡ joiner_code self }
     {
@@ -105,7 +107,7 @@ fn read_part(codes: &[u8], at: usize, n: u64) -> Result<usize, TermRefusal>
     ensures { term_reading result ≡ part_at codes.now at n }
 {
     let mut here = at;
-    // Kept: the place goes on by a whole part, not by one code.
+    // Kept: the place goes on by one code or past a whole part, as the code there says.
     while here < codes.len() {
         match shape_of(codes[here], n) {
             Shape::Whole => return Ok(here + 1),

@@ -52,6 +52,7 @@ fn numbered_side(side: u32) -> Side
 }
 
 // The test of a coalition on a side: the day's refusal, then those of the ledger and of the label.
+// Kept: C lends ledger, label and day one by one, and they go on as they came.
 fn test_on(
     ledger: &[u8],
     label: &[u8],
@@ -65,7 +66,7 @@ fn test_on(
     if !dates::real_date(day) {
         return Err(Refusal::NotReal);
     }
-    // Kept: each call has its own order of refusals, so that reading, counting and choosing are no one function.
+    // Kept: what follows is the same in two calls, which need n and what is chosen: a pair of the two would be taken apart at once.
     let sizes = ledgers::read_book(ledger, label)?;
     let asked = Asked {
         ledger,

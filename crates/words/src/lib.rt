@@ -458,7 +458,7 @@ pub fn evaluate(codes: &[u8], n: u64, see: &mut [u64; 64], change: &mut [u64; 64
 }
 
 // The number of the lowest bit that is set; 64 where none is.
-// Kept: the callers ask of words that have a bit, and an Option would be taken apart for nothing.
+// Kept: it promises what `trailing_zeros` does. As an Option, each of a row's words would be mapped past those before it, which is no plainer than the tests.
 pub fn lowest(x: u64) -> u64
     ensures { LowestBit x result }
 {

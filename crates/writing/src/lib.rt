@@ -63,6 +63,7 @@ fn put_bracket(c: u8, own: u8, rank: u8, text: &mut [u8], to: usize) -> usize
 }
 
 // Puts a number of a quorum at `to`, in decimal. The result is the place after it.
+// Kept: one digit or two, into the text where it stands; what prints needs a formatter over the text, which would be as long.
 fn put_number(k: u8, text: &mut [u8], to: usize) -> usize
     requires { (k ≤ 12) × (to + length (decimal k) ≤ length text.old) }
     ensures { Put (decimal k) text.old text.new to result }

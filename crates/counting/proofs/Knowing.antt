@@ -28,21 +28,13 @@ may_below k x small e = elim (dec_lt k 64) [
   | no h ↦ absurd (clash e (past_word k x (omega arith) small))
 ]
 
--- the cases of the code
-module _ (k : ℕ) (known : Known) where
-  pub judged_never : (b : Bool) → member k known.possible ≡ false → known ≡ judged_at b k known
-  judged_never b e = rw e
+-- the cases of the code in which grant k is judged
+module _ (k : ℕ) (known : Known) (may : member k known.possible ≡ true) (bit : ℕ) (is : bit ≡ 2 ^ k) (e : member k known.unjudged ≡ true) where
+  pub judged_yes : (b : Bool) → b ≡ true → record { unjudged = known.unjudged - bit; possible = known.possible } ≡ judged_at b k known
+  judged_yes b c = rw (is, may, e, c)
 
-  module _ (may : member k known.possible ≡ true) where
-    pub judged_before : (b : Bool) → member k known.unjudged ≡ false → known ≡ judged_at b k known
-    judged_before b e = rw (may, e)
-
-    module _ (bit : ℕ) (is : bit ≡ 2 ^ k) (e : member k known.unjudged ≡ true) where
-      pub judged_yes : (b : Bool) → b ≡ true → record { unjudged = known.unjudged - bit; possible = known.possible } ≡ judged_at b k known
-      judged_yes b c = rw (is, may, e, c)
-
-      pub judged_no : (b : Bool) → b ≡ false → record { unjudged = known.unjudged - bit; possible = known.possible - bit } ≡ judged_at b k known
-      judged_no b c = rw (is, may, e, c)
+  pub judged_no : (b : Bool) → b ≡ false → record { unjudged = known.unjudged - bit; possible = known.possible - bit } ≡ judged_at b k known
+  judged_no b c = rw (is, may, e, c)
 
 -- Judging a grant that may count keeps what is known true, and afterwards the grant may count exactly if it counts.
 pub record Judged (f : ℕ → Bool) (k : ℕ) (known : Known) : Type 0 where

@@ -121,16 +121,6 @@ empty_nowhere x e =
     let z = empty_words x e in
     rw (no_bit x.a (z 0 (omega arith)), no_bit x.b (z 1 (omega arith)), no_bit x.c (z 2 (omega arith)), no_bit x.d (z 3 (omega arith)))
 
-module _ (found : Option Refuter) (g : ℕ) (x y : Row) where
-  pub further_see : (r : ℕ) → placed g (lowest_in x) ≡ at r → refuted confidentiality r ≡ further_of found g (lowest_in x) (lowest_in y)
-  further_see r e = rw e
-
-  pub further_change : (r : ℕ) → empty_row x ≡ true → placed g (lowest_in y) ≡ at r → refuted integrity r ≡ further_of found g (lowest_in x) (lowest_in y)
-  further_change r z e = rw (empty_nowhere x z, e)
-
-  pub further_none : empty_row x ≡ true → empty_row y ≡ true → verdict_of found ≡ further_of found g (lowest_in x) (lowest_in y)
-  further_none z v = rw (empty_nowhere x z, empty_nowhere y v)
-
 -- the rows of those that can still decide
 pub still_rows_lem : (found : Option Refuter) (f : Marks) (g : ℕ) (both r : Rows) → RowsAt f g both → r ≡ still_rows found both → RowsAt (still_of found f) g r
 still_rows_lem None f g both r h e = rw e h

@@ -1,10 +1,10 @@
 -- The number of a coalition's test, and how it is refused. Assumes nothing.
-use mathlib.Core.Path.{◌≡◌, refl, ap, ◌∙◌}
+use mathlib.Core.Path.{◌≡◌, ap, ◌∙◌}
 use mathlib.Core.Bool.{true, false}
 use mathlib.Core.List.{List}
-use Prim.Native.Nat.{ℕ, zero, suc, ◌≤◌}
+use Prim.Native.Nat.{ℕ, ◌≤◌}
 use native.Mathlib.Omega.{arith}
-use Rattle.model.specs.Sides.{Side, integrity}
+use Rattle.model.specs.Sides.{Side}
 use Rattle.model.specs.Readings.{Reading, accepted, refused}
 use Rattle.model.specs.Dates.{real_date}
 use Rattle.model.specs.Ledgers.{read_book}
@@ -16,11 +16,7 @@ use Rattle.soundness.specs.declared.Tested.{Tested}
 use Rattle.soundness.specs.Testing.{tested_of, test_in}
 use Rattle.soundness.proofs.Accepted.{test-counted}
 use Rattle.soundness.proofs.Testing.{tested_few}
-use Rattle.trials.specs.Figures.{test_on, side_numbered}
-
-pub other_side : (side : ℕ) → (side ≡ 0 → ⊥) → integrity ≡ side_numbered side
-other_side zero h = absurd (h refl)
-other_side (suc k) h = refl
+use Rattle.trials.specs.Figures.{test_on}
 
 module _ (ledger label : List ℕ) (day : ℕ) (s : Side) (c : ℕ) where
   pub day_refused : real_date day ≡ false → ◌≡◌ {A = Reading model.Tested} (refused 86) (test_on ledger label day s c)

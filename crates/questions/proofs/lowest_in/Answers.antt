@@ -1,6 +1,5 @@
 use native.Mathlib.Omega.{arith}
-use mathlib.Core.Path.{◌≡◌, sym}
-use Prim.Native.Nat.{◌+◌}
+use mathlib.Core.Path.{sym}
 use Rattle.questions.proofs.Searching.{lowest_small, lowest-bit, first_word, second_word, third_word, fourth_word, no_word}
 use Rattle.questions.proofs.lowest_in.Goals as goal
 

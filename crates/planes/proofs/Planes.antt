@@ -9,7 +9,7 @@ use Rattle.model.specs.Coalitions.{member}
 use Rattle.words.specs.declared.Row.{Row}
 use Rattle.words.specs.FourWords.{row_set}
 use Rattle.words.proofs.FourWords.{row_cong}
-use Rattle.words.proofs.Tallies.{row_other, row_set_lem}
+use Rattle.words.proofs.Lists.{row_other, row_set_lem}
 use Rattle.planes.specs.Digits.{digit_row, digit_set, Digits, Elsewhere}
 use Rattle.planes.proofs.Carrying.{DigitOf}
 

@@ -12,6 +12,7 @@ ghost use Rattle.words.specs.Evaluation.{word_count};
 ghost use Rattle.short_forms.specs.Listings.{marked, marked_without, irredundant, bits_of, listing, FrontWritten};
 
 use refusals::Refusal;
+use words::Tables;
 
 // The coalitions of word w that have name i as a member and are marked without it. Without a name below 6 a coalition stands 2^i
 // bits down in its word, without another 2^(i - 6) words down.
@@ -99,11 +100,13 @@ fn write(n: u64, term: &[u8], buffer: &mut [u8]) -> usize
     requires { (n ≤ 12) × (3700 ≤ length buffer.old) }
     ensures { FrontWritten (short_form n (held (term_in term.now))) buffer.old buffer.new result }
 {
-    let mut see = [0u64; 64];
-    let mut change = [0u64; 64];
-    words::evaluate(term, n, &mut see, &mut change);
-    let first = list_side(&see, n, buffer);
-    let second = list_side(&change, n, &mut buffer[first..]);
+    let mut tables = Tables {
+        see: [0; 64],
+        change: [0; 64],
+    };
+    words::evaluate(term, n, &mut tables);
+    let first = list_side(&tables.see, n, buffer);
+    let second = list_side(&tables.change, n, &mut buffer[first..]);
     first + second
 }
 

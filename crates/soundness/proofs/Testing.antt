@@ -6,6 +6,7 @@ use Prim.Native.Nat.{ℕ, zero, suc, ◌+◌, ◌-◌, ◌*◌, ◌/◌, ◌≤�
 use native.Mathlib.Nat.{le_antisymm}
 use native.Mathlib.Omega.{arith}
 use lib.ListN.{length, length-append}
+use lib.Dec.{eqb}
 use borrow.Author.Tests.{eq-eqb, eqb-true}
 use Rattle.model.specs.Sides.{Side, confidentiality, integrity}
 use Rattle.model.specs.Coalitions.{member, Marks}
@@ -14,9 +15,10 @@ use Rattle.model.specs.Testing.{Tested, test_of}
 use Rattle.model.proofs.Truth.{and_left, and_right}
 use Rattle.model.proofs.Largest.{largest_least, largest_above, largest_cong}
 use Rattle.model.proofs.Testing.{test_most, test_all, test_next}
+use Rattle.words.specs.declared.Row.{Row}
 use Rattle.words.specs.declared.Rows.{Rows}
-use Rattle.words.specs.FourWords.{RowsAt, each_row, lacks_word, empty_rows}
-use Rattle.words.proofs.FourWords.{MarkedIn, rows_empty, rows_some}
+use Rattle.words.specs.FourWords.{RowAt, RowsAt, each_row, lacks_word, same_row, sided, empty_rows}
+use Rattle.words.proofs.FourWords.{row_none, rows_of, MarkedIn, rows_empty, rows_some}
 use Rattle.counting.specs.Counted.{grant_in}
 use Rattle.soundness.specs.declared.Kept.{Kept}
 use Rattle.soundness.specs.Keeping.{breaks, chosen_in, sound_in}
@@ -168,6 +170,10 @@ tested_few ledger grants bits s c = omega (arith, test_most s c (chosen_in ledge
 only_self : (s : Side) (c : ℕ) → only s c s c ≡ true
 only_self confidentiality c = eq-eqb c c refl
 only_self integrity c = eq-eqb c c refl
+
+pub only_rows : (s : Side) (c : ℕ) (x : Row) → RowAt (λ d. eqb d c) (c / 256) x → RowsAt (only s c) (c / 256) (sided s x (same_row 0))
+only_rows confidentiality c x r = rows_of _ _ _ _ r (row_none _)
+only_rows integrity c x r = rows_of _ _ _ _ (row_none _) r
 
 only_is : (s : Side) (c : ℕ) (r : Side) (d : ℕ) → only s c r d ≡ true → (r ≡ s) × (d ≡ c)
 only_is confidentiality c confidentiality d e = (refl, eqb-true d c e)

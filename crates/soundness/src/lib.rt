@@ -8,7 +8,7 @@ ghost use Rattle.model.specs.Grants.{marks_of};
 ghost use Rattle.words.specs.FourWords.{side_of, RowAt, RowsAt};
 ghost use Rattle.counting.specs.Counted.{grant_in};
 ghost use Rattle.soundness.specs.Keeping.{breaks, sound_in};
-ghost use Rattle.soundness.specs.Testing.{tested_of, test_in, only, TestedTo};
+ghost use Rattle.soundness.specs.Testing.{tested_of, test_in, TestedTo};
 
 use words::{Row, Rows, Side};
 
@@ -49,23 +49,6 @@ fn only_row(c: u64) -> Row
         b: only_word(c, w + 1),
         c: only_word(c, w + 2),
         d: only_word(c, w + 3),
-    }
-}
-
-// On one side, and on the other none.
-fn only(side: Side, c: u64) -> Rows
-    ensures { RowsAt (only (side_of side) c) (c / 256) result }
-{
-    let none = words::same(0);
-    match side {
-        Side::See => Rows {
-            see: only_row(c),
-            change: none,
-        },
-        Side::Change => Rows {
-            see: none,
-            change: only_row(c),
-        },
     }
 }
 
@@ -117,7 +100,8 @@ impl Chosen<'_> {
     pub fn test_coalition(&self, side: Side, c: u64) -> Tested
         ensures { tested_of result ≡ test_in self.now.ledger.now self.now.grants self.now.bits (side_of side) c }
     {
-        let kept = self.test_rows(c / 256, only(side, c));
+        let alone = words::sided(side, only_row(c), words::same(0));
+        let kept = self.test_rows(c / 256, alone);
         Tested {
             sound: !words::none(kept.rows),
             tested: kept.tested,

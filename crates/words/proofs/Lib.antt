@@ -6,5 +6,5 @@ pub mod Behind
 pub mod AnyBytes
 pub mod Tallies
 pub mod Steps
-pub mod Tables
+pub mod Lists
 pub mod Searches

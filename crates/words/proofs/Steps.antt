@@ -12,18 +12,18 @@ use lib.ListN.{length, drop, get_or, get_or-eq_default}
 use lib.Seq.{drop-drop}
 use Rattle.model.specs.Sides.{Side, confidentiality, integrity}
 use Rattle.model.specs.Coalitions.{member}
-use Rattle.model.specs.Terms.{Term, name, top, bottom, conj, disj, project, quorate, Code, whole, one, two, none, code_of, held}
+use Rattle.model.specs.Terms.{Term, name, top, bottom, conj, disj, project, quorate, project_code, Code, whole, one, two, none, code_of, held}
 use Rattle.model.proofs.Truth.{clash, and_left, and_right, lt_or_ge}
-use Rattle.model.proofs.Reading.{code_name}
+use Rattle.model.proofs.Reading.{code_name, code_project}
 use Rattle.words.specs.declared.Row.{Row}
 use Rattle.words.specs.declared.Rows.{Rows}
 use Rattle.words.specs.AnyBytes.{Taken, TakenAll, no_code, take_parts, taken, term_in}
-use Rattle.words.specs.FourWords.{RowAt, RowsAt, each_word, each_row, same_row, same_rows, row_in}
+use Rattle.words.specs.FourWords.{row_on, RowAt, RowsAt, each_word, each_row, same_row, same_rows, sided, rows_in}
 use Rattle.std.specs.Prelude.{Some, None}
 use Rattle.terms.specs.declared.Joiner.{Joiner}
 use Rattle.terms.specs.declared.Joiner.TheVariants.{Both, Either}
 use Rattle.terms.specs.Joiners.{joiner_at}
-use Rattle.words.specs.Evaluation.{joined, projected, Evaluated, left_over, quorum_at}
+use Rattle.words.specs.Evaluation.{joined, Evaluated, left_over, quorum_at}
 use Rattle.words.proofs.AnyBytes.{taken_end, taken_at, quorum_at_lem, no_quorum_at, all_none}
 use Rattle.words.proofs.Tallies.{Weighing, tally_done}
 use Rattle.words.proofs.FourWords.{row_none, row_all, row_both, row_either, rows_each, rows_same, rows_of}
@@ -132,15 +132,13 @@ module _ (s : List ℕ) (at g : ℕ) (h : at < length s) where
 
   -- one part after the code
   module _ (x : Rows) (m : ℕ) (p : Evaluated s (at + 1) g x m) where
-    pub eval_confidentiality : (z : Rows) → z ≡ projected confidentiality x → get_or s at 0 ≡ 0x40 → Evaluated s at g z m
-    unfolding code_of held
-    eval_confidentiality z w e = rw w (eval (one (project confidentiality)) _ m (ap (code_of 12) e)
-        (rows_of g _ x.see (same_row 0xFFFF_FFFF_FFFF_FFFF) (p.held_there.row confidentiality) (row_all g)) (omega (arith, p.past)))
-
-    pub eval_integrity : (z : Rows) → z ≡ projected integrity x → get_or s at 0 ≡ 0x41 → Evaluated s at g z m
-    unfolding code_of held
-    eval_integrity z w e = rw w (eval (one (project integrity)) _ m (ap (code_of 12) e)
-        (rows_of g _ (same_row 0xFFFF_FFFF_FFFF_FFFF) x.change (row_all g) (p.held_there.row integrity)) (omega (arith, p.past)))
+    pub eval_project : (side : Side) (z : Rows) → z ≡ sided side (row_on x side) (same_row 0xFFFF_FFFF_FFFF_FFFF) → get_or s at 0 ≡ project_code side → Evaluated s at g z m
+    unfolding held
+    eval_project side z w e = rw w (eval (one (project side)) _ m (ap (code_of 12) e ∙ code_project 12 side) (by side) (omega (arith, p.past)))
+      where
+        by : (side : Side) → RowsAt (held (project side (term_in (drop (at + 1) s)))) g (sided side (row_on x side) (same_row 0xFFFF_FFFF_FFFF_FFFF))
+        by confidentiality = rows_of g _ x.see (same_row 0xFFFF_FFFF_FFFF_FFFF) (p.held_there.row confidentiality) (row_all g)
+        by integrity = rows_of g _ (same_row 0xFFFF_FFFF_FFFF_FFFF) x.change (row_all g) (p.held_there.row integrity)
 
   -- two parts, the second where the first ends, whose rows an operation puts together
   module _ (x : Rows) (m : ℕ) (p : Evaluated s (at + 1) g x m) (y : Rows) (m' : ℕ) (q : Evaluated s m g y m') where
@@ -170,19 +168,19 @@ module _ (s : List ℕ) (at g : ℕ) (h : at < length s) where
     eval_join Either z e w = rw w (eval_disj (joiner_either (get_or s at 0) e))
 
   -- a quorum in range, whose parts from three bytes on are all weighed
-  pub eval_quorum : (see change : List ℕ) (left next : ℕ) → left ≡ 0 → quorum_at s at ≡ true
-      → Weighing s (at + 3) (get_or s (at + 2) 0) g (get_or s (at + 1) 0) left next see change
-      → Evaluated s at g (record { see = row_in see (get_or s (at + 1) 0); change = row_in change (get_or s (at + 1) 0) }) next
-  eval_quorum see change left next z q w =
+  pub eval_quorum : (table : List Rows) (left next : ℕ) → left ≡ 0 → quorum_at s at ≡ true
+      → Weighing s (at + 3) (get_or s (at + 2) 0) g (get_or s (at + 1) 0) left next table
+      → Evaluated s at g (rows_in table (get_or s (at + 1) 0)) next
+  eval_quorum table left next z q w =
       let k = get_or s (at + 1) 0 in
       let m = get_or s (at + 2) 0 in
       let in_range = and_right (eqb (get_or s at 0) 0x32) (ltb (at + 2) (length s) && quorate k m) q in
-      let d : Weighing s (at + 3) m g k 0 next see change = rw z at w in
+      let d : Weighing s (at + 3) m g k 0 next table = rw z at w in
       let none = all_none (drop next s) in
       by_taken s at g _ next _
       (quorum_at_lem s at h (eqb-true _ 0x32 (and_left (eqb (get_or s at 0) 0x32) (ltb (at + 2) (length s) && quorate k m) q))
       (ltb-true (at + 2) (length s) (and_left (ltb (at + 2) (length s)) (quorate k m) in_range)) (and_right (ltb (at + 2) (length s)) (quorate k m) in_range))
-      (rows_of g _ _ _ (tally_done _ confidentiality k g see (rw none at d.see_tally)) (tally_done _ integrity k g change (rw none at d.change_tally)))
+      record { row = λ s. tally_done _ s k g table (rw none at (d.tally s)) }
       (omega (arith, d.place, ap (λ (x : TakenAll). x.size) none))
 
   -- what else is left over: the strongest party, a quorum whose k or m is missing or out of range, and what is no code

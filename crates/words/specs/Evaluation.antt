@@ -6,10 +6,11 @@ use Rattle.model.specs.Sides.{Side, confidentiality, integrity}
 use Rattle.model.specs.Coalitions.{mark, packed}
 use Rattle.model.specs.Terms.{Term, quorate, held}
 use Rattle.words.specs.declared.Rows.{Rows}
+use Rattle.words.specs.declared.Tables.{Tables}
 use Rattle.terms.specs.declared.Joiner.{Joiner}
 use Rattle.terms.specs.declared.Joiner.TheVariants.{Both, Either}
 use Rattle.words.specs.AnyBytes.{taken, term_in}
-use Rattle.words.specs.FourWords.{RowsAt, each_row, same_row}
+use Rattle.words.specs.FourWords.{RowsAt, each_row}
 
 -- word w of a term on a side
 abbrev pub held_word : Term → Side → ℕ → ℕ
@@ -49,14 +50,14 @@ abbrev pub joined : Joiner → Rows → Rows → Rows
 joined Both p q = each_row bit_and p q
 joined Either p q = each_row bit_or p q
 
--- a part on one side alone
-abbrev pub projected : Side → Rows → Rows
-projected confidentiality part = record { see = part.see; change = same_row 0xFFFF_FFFF_FFFF_FFFF }
-projected integrity part = record { see = same_row 0xFFFF_FFFF_FFFF_FFFF; change = part.change }
-
 -- there is a quorum's code at the place, and a k and an m in range follow it
 abbrev pub quorum_at : List ℕ → ℕ → Bool
 quorum_at bytes at = eqb (get_or bytes at 0) 0x32 && (ltb (at + 2) (length bytes) && quorate (get_or bytes (at + 1) 0) (get_or bytes (at + 2) 0))
+
+-- the table of a side
+abbrev pub table_on : Tables → Side → List ℕ
+table_on tables confidentiality = tables.see
+table_on tables integrity = tables.change
 
 -- the first k words of a list are those of the term on the side
 pub record Tabled (t : Term) (s : Side) (k : ℕ) (words : List ℕ) : Type 0 where

@@ -1,5 +1,5 @@
 -- Rows of a set of coalitions, four words of 64 each: bit k of word j of row g is coalition 256 × g + 64 × j + k. Assumes nothing: these are definitions.
-use Rattle.std.specs.Prelude.{◌≡◌, Bool, not, ◌&&◌, List, ℕ, zero, suc, ◌+◌, ◌-◌, ◌*◌, ◌≤◌, ◌<◌, eqb, length, get_or, set}
+use Rattle.std.specs.Prelude.{◌≡◌, Bool, not, ◌&&◌, List, ℕ, zero, suc, ◌+◌, ◌-◌, ◌*◌, ◌<◌, eqb, length, get_or, set}
 use Rattle.std.specs.Int.Bits.{bit_and, bit_or}
 use Rattle.model.specs.Sides.{Side, confidentiality, integrity}
 use Rattle.model.specs.Coalitions.{Marks, packed}
@@ -58,6 +58,11 @@ lacks_word x y = bit_and x (0xFFFF_FFFF_FFFF_FFFF - y)
 abbrev pub both_sides : Row → Rows
 both_sides x = record { see = x; change = x }
 
+-- a row on the side, and another on the other
+abbrev pub sided : Side → Row → Row → Rows
+sided confidentiality row other = record { see = row; change = other }
+sided integrity row other = record { see = other; change = row }
+
 -- the same word four times, and on both sides
 abbrev pub same_row : ℕ → Row
 same_row x = record { a = x; b = x; c = x; d = x }
@@ -81,8 +86,12 @@ row_set words g row = set (set (set (set words (4 * g) row.a) (4 * g + 1) row.b)
 abbrev pub row_in : List ℕ → ℕ → Row
 row_in words g = record { a = get_or words (4 * g) 0; b = get_or words (4 * g + 1) 0; c = get_or words (4 * g + 2) 0; d = get_or words (4 * g + 3) 0 }
 
--- A quorum's table with room for place k, after one part more, of the row x: from 1 to k, place j + 1 gains what place j had and the part has.
-pub record Weighed (k : ℕ) (x : Row) (before after : List ℕ) : Type 0 where
+-- place j of a quorum's table
+abbrev pub rows_in : List Rows → ℕ → Rows
+rows_in table j = get_or table j (same_rows 0)
+
+-- A quorum's table with room for place k, after one part more, of the rows x: from 1 to k, place j + 1 gains what place j had and the part has.
+pub record Weighed (k : ℕ) (x : Rows) (before after : List Rows) : Type 0 where
   pub same : length after ≡ length before
-  pub none : row_in after 0 ≡ row_in before 0
-  pub each : (j : ℕ) → j < k → 4 * (k + 1) ≤ length before → row_in after (suc j) ≡ each_word bit_or (row_in before (suc j)) (each_word bit_and (row_in before j) x)
+  pub none : rows_in after 0 ≡ rows_in before 0
+  pub each : (j : ℕ) → j < k → k < length before → rows_in after (suc j) ≡ each_row bit_or (rows_in before (suc j)) (each_row bit_and (rows_in before j) x)

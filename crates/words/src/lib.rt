@@ -3,12 +3,12 @@
 
 ghost use Rattle.std.specs.Prelude.{◌≡◌, cond, ◌&&◌, ◌||◌, ◌+◌, ◌-◌, ◌*◌, ◌^◌, ◌≤◌, ◌<◌, eqb, ltb, length, get_or};
 ghost use Rattle.std.specs.Int.Bits.{bit_and, bit_or};
-ghost use Rattle.model.specs.Sides.{confidentiality, integrity};
+ghost use Rattle.model.specs.Sides.{Side as ModelSide};
 ghost use Rattle.model.specs.Coalitions.{member, packed};
 ghost use Rattle.model.specs.Terms.{quorate};
 ghost use Rattle.words.specs.AnyBytes.{term_in};
-ghost use Rattle.words.specs.FourWords.{side_of, AtEachWord, AtEachSide, each_word, each_row, lacks_word, same_row, same_rows, both_sides, empty_row, empty_rows, row_set, row_in, RowAt, Weighed};
-ghost use Rattle.words.specs.Evaluation.{coalition_word, job_of, joined, projected, word_count, row_count, left_over, quorum_at, Evaluated, EvaluatedTo, LowestBit};
+ghost use Rattle.words.specs.FourWords.{side_of, AtEachWord, AtEachSide, each_word, each_row, lacks_word, same_row, same_rows, both_sides, sided, empty_row, empty_rows, row_set, row_in, RowAt, Weighed};
+ghost use Rattle.words.specs.Evaluation.{coalition_word, job_of, joined, word_count, row_count, left_over, quorum_at, Evaluated, table_on, EvaluatedTo, LowestBit};
 
 use terms::Joiner;
 
@@ -57,6 +57,22 @@ pub fn alike(x: Row) -> Rows
     ensures { result ≡ both_sides x }
 {
     Rows { see: x, change: x }
+}
+
+// A row on the side, and another on the other.
+pub fn sided(side: Side, row: Row, other: Row) -> Rows
+    ensures { result ≡ sided (side_of side) row other }
+{
+    match side {
+        Side::See => Rows {
+            see: row,
+            change: other,
+        },
+        Side::Change => Rows {
+            see: other,
+            change: row,
+        },
+    }
 }
 
 // What `of` makes of two rows, word by word.
@@ -202,22 +218,6 @@ fn join(joiner: Joiner, p: Rows, q: Rows) -> Rows
     }
 }
 
-// A term's rows with its part on one side alone: on the other the weakest party.
-fn projected(side: Side, part: Rows) -> Rows
-    ensures { result ≡ projected (side_of side) part }
-{
-    match side {
-        Side::See => Rows {
-            see: part.see,
-            change: same(ALL),
-        },
-        Side::Change => Rows {
-            see: same(ALL),
-            change: part.change,
-        },
-    }
-}
-
 // Row g of the term that the bytes from `at` on stand for. A part that is a name is taken in place. Bytes that are no term are for the term reader
 // to refuse: here what is no code, or is missing, is held nowhere.
 #[cycle(hold_hold_quorum)]
@@ -263,14 +263,14 @@ pub fn hold(codes: &[u8], at: usize, g: u64) -> Held
             let p = hold(codes, next, g);
             Held {
                 next: p.next,
-                rows: projected(Side::See, p.rows),
+                rows: sided(Side::See, p.rows.see, same(ALL)),
             }
         }
         0x41 => {
             let p = hold(codes, next, g);
             Held {
                 next: p.next,
-                rows: projected(Side::Change, p.rows),
+                rows: sided(Side::Change, p.rows.change, same(ALL)),
             }
         }
         _ => {
@@ -304,15 +304,14 @@ pub fn row_at(words: &[u64], g: usize) -> Row
     }
 }
 
-// One part more, of the row x, in a quorum's table: its row j has the coalitions that hold at least j of the parts so far.
-fn weigh(table: &mut [u64; 64], k: usize, x: Row)
+// One part more, of the rows x, in a quorum's table: its rows j have the coalitions that hold at least j of the parts so far.
+fn weigh(table: &mut [Rows; 13], k: usize, x: Rows)
     requires { k ≤ 12 }
     ensures { Weighed k x table.old table.new }
 {
     for j in (0..k).rev() {
-        let fewer = row_at(table, j);
-        let enough = row_at(table, j + 1);
-        put_row(table, j + 1, either(enough, both(fewer, x)));
+        let gained = each_side(table[j], x, both);
+        table[j + 1] = each_side(table[j + 1], gained, either);
     }
 }
 
@@ -344,7 +343,7 @@ fn is_quorum(codes: &[u8], at: usize) -> bool
 }
 
 // Row g of the term that the bytes from `at` on stand for, where it is a quorum by weighing its parts: k, m and m parts follow the code. It calls itself on
-// the parts, and not `hold`: so the compiler keeps it, and its tables, out of `hold`.
+// the parts, and not `hold`: so the compiler keeps it, and its table, out of `hold`.
 #[cycle(hold_hold_quorum)]
 fn hold_quorum(codes: &[u8], at: usize, g: u64) -> Held
     ensures { Evaluated codes.now at g result.rows result.next }
@@ -361,24 +360,17 @@ fn hold_quorum(codes: &[u8], at: usize, g: u64) -> Held
         };
     }
     let k = codes[at + 1] as usize;
-    let mut see = [0u64; 64];
-    put_row(&mut see, 0, same(ALL));
-    let mut change = [0u64; 64];
-    put_row(&mut change, 0, same(ALL));
+    let mut table = [alike(same(NONE)); 13];
+    table[0] = alike(same(ALL));
     let mut next = at + 3;
     for _ in 0..codes[at + 2] {
         let p = hold_quorum(codes, next, g);
-        let part = p.rows;
-        weigh(&mut see, k, part.see);
-        weigh(&mut change, k, part.change);
+        weigh(&mut table, k, p.rows);
         next = p.next;
     }
     Held {
         next,
-        rows: Rows {
-            see: row_at(&see, k),
-            change: row_at(&change, k),
-        },
+        rows: table[k],
     }
 }
 
@@ -445,15 +437,21 @@ pub fn row_count(n: u64) -> u64
     part_count(n, 8)
 }
 
-// All rows of a term of n names on both sides, row g in the four words from place 4 * g on: for what asks for them more than once.
-pub fn evaluate(codes: &[u8], n: u64, see: &mut [u64; 64], change: &mut [u64; 64])
-    ensures see_side { EvaluatedTo (term_in codes.now) confidentiality (4 * row_count n) see.old see.new }
-    ensures change_side { EvaluatedTo (term_in codes.now) integrity (4 * row_count n) change.old change.new }
+// The words of a term's rows, on each side: those of row g are the four from place 4 * g on.
+#[derive(Drop)]
+pub struct Tables {
+    pub see: [u64; 64],
+    pub change: [u64; 64],
+}
+
+// All rows of a term of n names on both sides: for what asks for them more than once.
+pub fn evaluate(codes: &[u8], n: u64, tables: &mut Tables)
+    ensures { (s : ModelSide) → EvaluatedTo (term_in codes.now) s (4 * row_count n) (table_on tables.old s) (table_on tables.new s) }
 {
     for g in 0..row_count(n) {
         let rows = hold(codes, 0, g).rows;
-        put_row(see, g as usize, rows.see);
-        put_row(change, g as usize, rows.change);
+        put_row(&mut tables.see, g as usize, rows.see);
+        put_row(&mut tables.change, g as usize, rows.change);
     }
 }
 

@@ -1,13 +1,15 @@
-use Rattle.std.proofs.Common.{◌≡◌, ◌+◌, ◌-◌, ◌≤◌, ◌<◌, ℕ, true, List, eqb, ltb, length, get_or, arith, sym, ap, ◌∙◌, subst}
+use Rattle.std.proofs.Common.{◌≡◌, ◌+◌, ◌-◌, ◌≤◌, ◌<◌, ℕ, true, List, eqb, ltb, length, get_or, arith, sym, ap, ap₂, ◌∙◌, subst, set, replicate}
 use native.Mathlib.Nat.{sub-zero}
-use Rattle.words.specs.FourWords.{both_sides}
+use Rattle.model.specs.Sides.{confidentiality, integrity}
+use Rattle.words.specs.FourWords.{both_sides, sided, same_rows}
 use Rattle.model.specs.Terms.{quorate}
 use Rattle.model.proofs.Truth.{and_right}
 use Rattle.model.proofs.Reading.{quorate_true}
 use Rattle.words.specs.declared.Held.{Held}
+use Rattle.words.specs.declared.Rows.{Rows}
 use Rattle.words.specs.Evaluation.{Evaluated, left_over, quorum_at}
 use Rattle.words.proofs.Behind.{behind_left_over, behind_other, behind_most}
-use Rattle.words.proofs.Steps.{left_over_lem, left_over_inside, eval_end, eval_bottom, eval_confidentiality, eval_integrity, eval_join, eval_quorum, eval_left_over}
+use Rattle.words.proofs.Steps.{left_over_lem, left_over_inside, eval_end, eval_bottom, eval_project, eval_join, eval_quorum, eval_left_over}
 use Rattle.words.proofs.Tallies.{weighing_start, weighing_next}
 use Rattle.words.proofs.+hold_hold_quorum.Goals as goal
 use Rattle.words.proofs.+hold_hold_quorum.Goals.{hold-Joined-is_name, hold-Joined-is_name-2, hold_quorum-Else-not-leaves, hold_quorum-Else-not-is_quorum, hold-then-is_name, hold-else-is_name, hold-then-is_name-2, hold-else-is_name-2}
@@ -51,12 +53,12 @@ hold-returns-in-33 t c =
 pub hold-returns-in-64 : goal.hold-returns-in-64
 hold-returns-in-64 t c =
     let code = c.in-Some.ensures.lookup.3 in
-    eval_confidentiality _ _ _ code.0 _ _ c.hold-p-in-64.ensures _ c.projected.ensures (sym (code.1 0) ∙ c.in-64.is)
+    eval_project _ _ _ code.0 _ _ c.hold-p-in-64.ensures confidentiality _ (c.sided.ensures ∙ ap (sided confidentiality _) c.same-in-64.ensures) (sym (code.1 0) ∙ c.in-64.is)
 
 pub hold-returns-in-65 : goal.hold-returns-in-65
 hold-returns-in-65 t c =
     let code = c.in-Some.ensures.lookup.3 in
-    eval_integrity _ _ _ code.0 _ _ c.hold-p-in-65.ensures _ c.projected-in-65.ensures (sym (code.1 0) ∙ c.in-65.is)
+    eval_project _ _ _ code.0 _ _ c.hold-p-in-65.ensures integrity _ (c.sided-in-65.ensures ∙ ap (sided integrity _) c.same-in-65.ensures) (sym (code.1 0) ∙ c.in-65.is)
 
 pub hold_quorum-hold-next-requires : goal.hold_quorum-hold-next-requires
 hold_quorum-hold-next-requires t c =
@@ -86,7 +88,9 @@ hold_quorum-returns-then-not-is_quorum t c =
 
 pub hold_quorum-loop-init : goal.hold_quorum-loop-init
 hold_quorum-loop-init t c =
-    (few t (goal.at.hold_quorum-loop-init t c).Else-not-is_quorum, rw sub-zero (weighing_start _ _ _ _ _ _ _ _ _ c.same-2.ensures c.same-3.ensures c.put_row.ensures c.put_row-2.ensures))
+    let none : c.alike-table.result ≡ same_rows 0 = c.alike-table.ensures ∙ ap both_sides c.same-2.ensures in
+    let all : c.alike-2.result ≡ same_rows 0xFFFF_FFFF_FFFF_FFFF = c.alike-2.ensures ∙ ap both_sides c.same-3.ensures in
+    (few t (goal.at.hold_quorum-loop-init t c).Else-not-is_quorum, rw sub-zero (weighing_start _ _ _ _ _ _ (ap₂ (λ (x y : Rows). set (replicate 13 x) 0 y) none all)))
 
 pub hold_quorum-hold_quorum-p-requires : goal.hold_quorum-hold_quorum-p-requires
 hold_quorum-hold_quorum-p-requires t c =
@@ -97,11 +101,10 @@ hold_quorum-loop-preserved t c =
     let l = c.loop in
     let m = get_or c.args.codes.now (c.args.at + 2) 0 in
     let fewer : m - (l.counter + 1) ≡ m - l.counter - 1 = omega arith in
-    (l.invariant.0, rw fewer (weighing_next _ _ _ _ _ _ _ _ c.hold_quorum-p.ensures _ _ _ _ l.invariant.0 c.weigh.ensures c.weigh-in-loop.ensures (m - l.counter) (omega arith) l.invariant.1))
+    (l.invariant.0, rw fewer (weighing_next _ _ _ _ _ _ _ _ c.hold_quorum-p.ensures _ _ l.invariant.0 c.weigh.ensures (m - l.counter) (omega arith) l.invariant.1))
 
 pub hold_quorum-returns : goal.hold_quorum-returns
 hold_quorum-returns t c =
     let p = goal.at.hold_quorum-returns t c in
     let l = c.loop in
-    rw (c.row_at.ensures, c.row_at-2.ensures)
-    (eval_quorum _ _ _ (there t p.Else-not-leaves) _ _ (get_or c.args.codes.now (c.args.at + 2) 0 - l.counter) _ (omega arith) (counted t p.Else-not-is_quorum) l.invariant.1)
+    eval_quorum _ _ _ (there t p.Else-not-leaves) _ (get_or c.args.codes.now (c.args.at + 2) 0 - l.counter) _ (omega arith) (counted t p.Else-not-is_quorum) l.invariant.1

@@ -13,4 +13,4 @@ decreases-hold_quorum l = 3 * (length l.codes.now - l.at) + behind l.codes.now l
 
 abbrev pub invariant-hold_quorum-loop : goal.invariant-hold_quorum-loop
 invariant-hold_quorum-loop l =
-    (l.k ≤ 12) × Weighing l.codes (l.at + 3) (get_or l.codes (l.at + 2) 0) l.g l.k (get_or l.codes (l.at + 2) 0 - l.counter) l.next l.see l.change
+    (l.k ≤ 12) × Weighing l.codes (l.at + 3) (get_or l.codes (l.at + 2) 0) l.g l.k (get_or l.codes (l.at + 2) 0 - l.counter) l.next l.table

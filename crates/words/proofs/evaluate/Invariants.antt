@@ -1,10 +1,9 @@
--- The loop's invariant: the rows before g are evaluated.
+-- The loop's invariant: the rows before g are evaluated, on each side.
 use Prim.Native.Nat.{◌*◌}
-use Rattle.model.specs.Sides.{confidentiality, integrity}
+use Rattle.model.specs.Sides.{Side}
 use Rattle.words.specs.AnyBytes.{term_in}
-use Rattle.words.specs.Evaluation.{EvaluatedTo}
+use Rattle.words.specs.Evaluation.{table_on, EvaluatedTo}
 use Rattle.words.proofs.evaluate.Given as goal
 
 abbrev pub invariant-loop-g : goal.invariant-loop-g
-invariant-loop-g l =
-    EvaluatedTo (term_in l.codes) confidentiality (4 * l.g) l.initial.see l.see × EvaluatedTo (term_in l.codes) integrity (4 * l.g) l.initial.change l.change
+invariant-loop-g l = (s : Side) → EvaluatedTo (term_in l.codes) s (4 * l.g) (table_on l.initial.tables s) (table_on l.tables s)

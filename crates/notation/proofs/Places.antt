@@ -1,136 +1,77 @@
--- How the reading at a place of a text goes from character to character, and what it leaves in the scratch: a law for each return of the readers.
--- Assumes nothing.
-use Prim.Native.Nat.{ℕ, zero, suc, ◌+◌, ◌-◌, ◌<◌, ◌≤◌}
+-- How the reading of a text goes from character to character, and what it leaves: a law for each return of the readers. Assumes nothing.
+use Prim.Native.Nat.{ℕ, suc, ◌+◌, ◌-◌, ◌<◌, ◌≤◌}
 use native.Mathlib.Omega.{arith}
+use native.Mathlib.Numerals.{add-one}
 use mathlib.Core.Path.{◌≡◌, refl, sym, ap, ◌∙◌}
-use mathlib.Core.Bool.{true, false, cond, ◌&&◌}
-use Rattle.std.specs.Prelude.{Option, Some, None}
-use mathlib.Core.List.{List, [], ◌∷◌, ◌++◌, append_assoc, reverse_aux-eq}
-use lib.Dec.{leb, ltb}
-use lib.ListN.{length, drop, get_or, set, length-append, length-set}
-use lib.Seq.{drop-cons, drop-set-lt, get_or-set_same}
+use mathlib.Core.Bool.{true, false, cond, ◌&&◌, false≢true, and-true}
+use mathlib.Core.List.{List, [], ◌∷◌, ◌++◌, append_assoc, reverse, reverse-append}
+use lib.Dec.{eqb, leb, ltb}
+use lib.ListN.{length, take, drop, get_or, length-append, drop_of_length-le}
+use lib.Pointwise.{pointwise}
+use lib.Seq.{take-suc, take-length, drop-cons}
 use borrow.Author.Tests.{ne_eqb}
+use Rattle.std.specs.Prelude.{Option, Some, None, is_some, MatchOption}
 use Rattle.model.specs.Sides.{Side}
-use Rattle.model.specs.Terms.{project_code, codes}
-use Rattle.model.specs.Texts.{Joiner, both, either, Tree, letter, signed, join, no_place, joiner, flat, places, term, join_rank}
-use Rattle.model.specs.Notation.{Back, ended, no_text, leftward, Last, sole, side, closing, other, last_of, ends_in, joined_to, read_last, read_back, around_back}
-use Rattle.model.proofs.Texts.{join_code, part_rank, join_codes, onto, onto_flat, onto_long, Right, last_right, back_sound, atom_none, atom_step, list_step}
+use Rattle.model.specs.Terms.{project_code, codes, codes_all}
+use Rattle.model.specs.Texts.{Joiner, both, either, Tree, letter, signed, join, Trees, no_place, place, places, joiner, term, terms, join_rank}
+use Rattle.model.specs.Notation.{Back, ended, no_text, leftward, Last, sole, side, closing, other, last_of, ends_in, opened, placed, joined_to, read_last, read_back, around_back}
+use Rattle.model.proofs.Texts.{join_code, part_rank, join_codes, onto_long, Right, last_right, ends_in_lem, back_sound, atom_none, atom_step, list_step, around_step}
 use Rattle.terms.specs.declared.Joiner.{Joiner as CodeJoiner}
 use Rattle.terms.specs.declared.Joiner.TheVariants.{Both, Either}
 use Rattle.terms.specs.Joiners.{kind, joiner_code}
-use Rattle.notation.specs.Reading.{part_from, ending_of, backward, ReadTo, Read, ReadBefore}
+use Rattle.notation.specs.Reading.{ending_of, State, state, past, ReadOff, Read, ReadBefore}
 use Rattle.notation.specs.declared.Ending.TheVariants.{Sole, Sign, Closing, Other}
-use Rattle.notation.specs.declared.Part.{Part}
 
--- ---- the first characters, the last one first
+-- ---- the last character first
 
-pub backward_long : (s : List ℕ) (e : ℕ) → length (backward s e) ≡ e
-unfolding backward
-backward_long s zero = refl
-backward_long s (suc e) = ap suc (backward_long s e)
+pub last_first : (t : List ℕ) → 1 ≤ length t → reverse t ≡ get_or t (length t - 1) 0 ∷ reverse (take (length t - 1) t)
+last_first t h =
+    let k : suc (length t - 1) ≡ length t = omega arith in
+    ap reverse (sym (take-length t) ∙ ap (λ (n : ℕ). take n t) (sym k) ∙ take-suc t (length t - 1) 0 (omega arith)) ∙ reverse-append (take (length t - 1) t) (get_or t (length t - 1) 0 ∷ [])
 
-pub backward_none : (s : List ℕ) (e : ℕ) → e ≡ 0 → backward s e ≡ []
-unfolding backward
-backward_none s e h = rw h
+last_alone : (t : List ℕ) → 1 ≤ length t → drop (length t - 1) t ≡ get_or t (length t - 1) 0 ∷ []
+last_alone t h = drop-cons t (length t - 1) 0 (omega arith) ∙ ap (◌∷◌ (get_or t (length t - 1) 0)) (drop_of_length-le t {i = suc (length t - 1)} (omega arith))
 
-pub backward-step : (s : List ℕ) (e : ℕ) → 0 < e → backward s e ≡ get_or s (e - 1) 0 ∷ backward s (e - 1)
-unfolding backward
-backward-step s zero h = absurd (omega arith)
-backward-step s (suc e) h =
-    let k : suc e - 1 ≡ e = omega arith in
-    rw k
+pub ends_same : (t : List ℕ) (c : ℕ) → pointwise eqb (drop (length t - 1) t) (c ∷ []) ≡ ends_in c (reverse t)
+ends_same [] c = refl
+ends_same (x ∷ t) c = rw (last_alone (x ∷ t) (omega arith), last_first (x ∷ t) (omega arith)) (and-true (eqb (get_or (x ∷ t) (length (x ∷ t) - 1) 0) c))
 
--- without the last one
-pub backward_less : (s : List ℕ) (e : ℕ) → drop 1 (backward s e) ≡ backward s (e - 1)
-unfolding backward
-backward_less s zero = refl
-backward_less s (suc e) =
-    let k : suc e - 1 ≡ e = omega arith in
-    rw k
+pub drop_last : (t : List ℕ) → drop 1 (reverse t) ≡ reverse (take (length t - 1) t)
+drop_last [] = refl
+drop_last (x ∷ t) = ap (drop 1) (last_first (x ∷ t) (omega arith))
 
--- what ends in a character has one
-pub ends_some : (s : List ℕ) (e c : ℕ) → ends_in c (backward s e) ≡ true → 0 < e
-unfolding backward
-ends_some s zero c h = absurd (let z : ◌≡◌ {A = ℕ} 0 1 = cc in omega arith)
-ends_some s (suc e) c h = omega arith
+-- ---- what is handed on
 
--- a rest of them is a beginning of the text
-pub suffix : (s : List ℕ) (e : ℕ) (xs rest : List ℕ) → backward s e ≡ xs ++ rest → rest ≡ backward s (length rest)
-unfolding backward
-suffix s e [] rest h = let l : e ≡ length rest = sym (backward_long s e) ∙ ap length h in sym h ∙ ap (backward s) l
-suffix s zero (x ∷ xs) rest h = absurd (let z : ◌≡◌ {A = ℕ} 0 1 = cc in omega arith)
-suffix s (suc e) (x ∷ xs) rest h = let k : backward s e ≡ xs ++ rest = cc in suffix s e xs rest k
+-- an answer that says something, and so something else
+pub handed : {R P P' : Type 0} {Q Q' : R → Type 0} (r : Option R) → MatchOption r P Q → (P → P') → ((x : R) → Q x → Q' x) → MatchOption r P' Q'
+handed None h f g = f h
+handed (Some x) h f g = g x h
 
-onto_append : (w : Tree) (r : List ℕ) → onto w r ≡ onto w [] ++ r
-onto_append w r = onto_flat w r ∙ reverse_aux-eq (flat w) r ∙ ap (λ (l : List ℕ). l ++ r) (sym (onto_flat w []))
+-- and is one character
+pub one_less : (s : List ℕ) (c : ℕ) → ends_in c s ≡ true → length s ≡ suc (length (drop 1 s))
+one_less s c e = ap length (ends_in_lem c s e)
 
--- ---- what a caller knows
+pub passed_less : (c : ℕ) (mid on : State) → ends_in c mid.left ≡ true → on ≡ past mid → (length mid.left ≡ suc (length on.left)) × (length on.codes ≡ length mid.codes)
+passed_less c mid on e p = rw p (one_less mid.left c e, refl)
 
--- a part's two places
-abbrev start_of : Option Part → ℕ
-start_of (Some p) = p.start
-start_of None = 0
+pub read_none : (b : Back) (before after : State) (r : Option (Unit {0})) → is_some r ≡ false → Read b before after r → b ≡ no_text
+read_none b before after None e h = h
+read_none b before after (Some u) e h = absurd (false≢true (sym e))
 
-abbrev from_of : Option Part → ℕ
-from_of (Some p) = p.from
-from_of None = 0
+pub read_some : (b : Back) (before after : State) (r : Option (Unit {0})) → is_some r ≡ true → Read b before after r → ReadOff b before.n before.codes after
+read_some b before after None e h = absurd (false≢true e)
+read_some b before after (Some u) e h = h
 
--- where a reading of the first `end` characters left `start` of them, its codes from `from` on
-pub record Got (n l : ℕ) (text : List ℕ) (end to : ℕ) (before after : List ℕ) (start from : ℕ) : Type 0 where
-  pub tree : Tree
-  pub is : read_back n l (backward text end) ≡ ended tree (backward text start)
-  pub some : 1 ≤ length (codes (term tree))
-  pub paid : length (codes (term tree)) + start ≤ end
-  pub begins : from ≡ to - length (codes (term tree))
-  pub stored : drop from after ≡ codes (term tree) ++ drop to before
-  pub size : length after ≡ length before
+-- ---- how long what was read is: a tree has a code, and a character for each
 
-module _ (n l : ℕ) (text : List ℕ) (end to : ℕ) (before after : List ℕ) where
-  got_ended : (start from : ℕ) (b : Back) → read_back n l (backward text end) ≡ b → Read b to before after (part_from start from) → Got n l text end to before after start from
-  got_ended start from (ended w left) e h =
-      let s = back_sound n l (backward text end) w left e in
-      let a : part_from start from ≡ part_from (length left) (to - length (codes (term w))) = h.answer in
-      let x : start ≡ length left = ap start_of a in
-      let y : from ≡ to - length (codes (term w)) = ap from_of a in
-      let g = onto_long w left in
-      let k : end ≡ length (onto w left) = sym (backward_long text end) ∙ ap length s.0 in
-      record {
-        tree = w;
-        is = e ∙ ap (ended w) (suffix text end (onto w []) left (s.0 ∙ onto_append w left) ∙ ap (backward text) (sym x));
-        some = g.0;
-        paid = omega (arith, g.1);
-        begins = y;
-        stored = rw y h.stored;
-        size = h.size;
-      }
-  got_ended start from no_text e h = let a : part_from start from ≡ None = h.answer in absurd (let z : ◌≡◌ {A = ℕ} 0 1 = cc in omega arith)
-
-  pub got : (start from : ℕ) (r : Option Part) → Read (read_back n l (backward text end)) to before after r → r ≡ part_from start from → Got n l text end to before after start from
-  got start from r h e = got_ended start from (read_back n l (backward text end)) refl (rw e at h)
-
-  none_from : (b : Back) → Read b to before after None → b ≡ no_text
-  none_from (ended w left) h = let a : None ≡ part_from (length left) (to - length (codes (term w))) = h.answer in cc
-  none_from no_text h = refl
-
-  pub got_none : (r : Option Part) → Read (read_back n l (backward text end)) to before after r → r ≡ None → read_back n l (backward text end) ≡ no_text
-  got_none r h e = none_from (read_back n l (backward text end)) (rw e at h)
-
--- ---- what a reader returns
-
-pub read_none : (b : Back) (to : ℕ) (rest before after : List ℕ) → length after ≡ length before → b ≡ no_text → ReadTo b to rest before after None
-read_none b to rest before after z e = rw e (record { answer = refl; stored = tt; size = z })
-
-pub read_ended : (b : Back) (to : ℕ) (rest before after : List ℕ) (w : Tree) (left : List ℕ) (start from : ℕ) → b ≡ ended w left → start ≡ length left → from ≡ to - length (codes (term w))
-    → drop from after ≡ codes (term w) ++ rest → length after ≡ length before → ReadTo b to rest before after (part_from start from)
-read_ended b to rest before after w left start from e x y h z = rw e (record { answer = rw (x, y); stored = rw y at h; size = z })
-
--- one code more before those that stand from `from` on
-pub put-before : (mid : List ℕ) (from code : ℕ) (ds : List ℕ) → 1 ≤ from → from ≤ length mid → drop from mid ≡ ds → drop (from - 1) (set mid (from - 1) code) ≡ code ∷ ds
-put-before mid from code ds h i e =
-    let s : suc (from - 1) ≡ from = omega arith in
-    let k : from - 1 < length (set mid (from - 1) code) = rw (length-set mid (from - 1) code) (omega arith) in
-    drop-cons (set mid (from - 1) code) (from - 1) 0 k
-    ∙ rw (get_or-set_same mid (from - 1) code 0 (omega arith), drop-set-lt (suc (from - 1)) mid (from - 1) code (omega arith), s, e)
+pub paid : (n l m : ℕ) (s rest : List ℕ) (after : State) → ReadOff (read_back n l s) m rest after
+    → (length after.codes + length after.left ≤ length s + length rest) × (length rest < length after.codes)
+paid n l m s rest after r =
+    let w = r.tree in
+    let h = back_sound n l s w after.left r.is in
+    let g = onto_long w after.left in
+    let a : length after.codes ≡ length (codes (term w)) + length rest = ap length r.stored ∙ length-append (codes (term w)) rest in
+    (omega (arith, a, g.1, ap length h.0), omega (arith, a, g.0))
 
 -- ---- what the last character is
 
@@ -181,53 +122,42 @@ last_plain n c a b d e f = rw (ne_eqb c 0x2A a, ne_eqb c 0x5F b, ne_eqb c 0x3E d
 
 -- ---- an atom, by its last character
 
-module _ (n : ℕ) (text : List ℕ) (end to : ℕ) (before : List ℕ) where
-  pub atom_end : end ≡ 0 → Read (read_back n 0 (backward text end)) to before before None
-  atom_end h = read_none _ to _ before before refl (rw (backward_none text end h) (atom_none n))
+pub atom_end : (n : ℕ) (t : List ℕ) → length t < 1 → read_back n 0 (reverse t) ≡ no_text
+atom_end n [] h = atom_none n
+atom_end n (x ∷ t) h = absurd (omega arith)
 
-  module _ (h : 0 < end) where
-    abbrev last : Last
-    last = last_of n (get_or text (end - 1) 0)
+module _ (n c : ℕ) (s : List ℕ) where
+  abbrev last : Last
+  last = last_of n c
 
-    last_at : read_back n 0 (backward text end) ≡ read_last (read_back n) (around_back n) last (backward text (end - 1))
-    last_at = ap (read_back n 0) (backward-step text end h) ∙ atom_step n (get_or text (end - 1) 0) (backward text (end - 1))
+  last_at : (m : Last) → last ≡ m → read_back n 0 (c ∷ s) ≡ read_last (read_back n) (around_back n) m s
+  last_at m e = atom_step n c s ∙ ap (λ (x : Last). read_last (read_back n) (around_back n) x s) e
 
-    pub atom_sole : (code : ℕ) → ending_of last ≡ Sole code → end ≤ to → to ≤ length before
-        → Read (read_back n 0 (backward text end)) to before (set before (to - 1) code) (part_from (end - 1) (to - 1))
-    atom_sole code e i k =
-        let m = from_sole n (get_or text (end - 1) 0) code last (last_right n (get_or text (end - 1) 0)) e in
-        read_ended _ to _ before (set before (to - 1) code) m.tree (backward text (end - 1)) (end - 1) (to - 1)
-        (last_at ∙ ap (λ (x : Last). read_last (read_back n) (around_back n) x (backward text (end - 1))) m.is) (sym (backward_long text (end - 1))) (rw m.coded)
-        (put-before before to code (drop to before) (omega arith) k refl ∙ rw m.coded) (length-set before (to - 1) code)
+  module _ (rest : List ℕ) (after : State) where
+    pub atom_sole : (code : ℕ) → ending_of last ≡ Sole code → after ≡ state n s (code ∷ rest) → length s + suc (length rest) ≤ 256 → ReadOff (read_back n 0 (c ∷ s)) n rest after
+    atom_sole code e a room =
+        let m = from_sole n c code last (last_right n c) e in
+        rw a (record { tree = m.tree; is = last_at (sole m.tree) m.is; stored = rw m.coded; same = refl; room = room })
 
-    pub atom_other : ending_of last ≡ Other → Read (read_back n 0 (backward text end)) to before before None
-    atom_other e = read_none _ to _ before before refl (last_at ∙ rw (from-other last e))
-
-    module _ (code : ℕ) (e : ending_of last ≡ Sign code) where
-      pub sign_none : (after : List ℕ) → length after ≡ length before → read_back n 0 (backward text (end - 1)) ≡ no_text → Read (read_back n 0 (backward text end)) to before after None
-      sign_none after z g = read_none _ to _ before after z (last_at ∙ rw ((from-sign code last e).is, g))
-
-      pub sign-ended : (mid : List ℕ) (start from : ℕ) → Got n 0 text (end - 1) to before mid start from → end ≤ to → to ≤ length before
-          → Read (read_back n 0 (backward text end)) to before (set mid (from - 1) code) (part_from start (from - 1))
-      unfolding term codes
-      sign-ended mid start from g i k =
-          let m = from-sign code last e in
-          let b : from ≡ to - length (codes (term g.tree)) = g.begins in
-          let p : length (codes (term g.tree)) + start ≤ end - 1 = g.paid in
-          let z : length mid ≡ length before = g.size in
-          read_ended _ to _ before (set mid (from - 1) code) (signed m.to g.tree) (backward text start) start (from - 1)
-          (last_at ∙ ap (λ (x : Last). read_last (read_back n) (around_back n) x (backward text (end - 1))) m.is ∙ rw g.is) (sym (backward_long text start)) (omega arith)
-          (put-before mid from code (codes (term g.tree) ++ drop to before) (omega arith) (omega arith) g.stored ∙ rw m.coded) (length-set mid (from - 1) code ∙ z)
+    pub sign-ended : (code : ℕ) → ending_of last ≡ Sign code → (mid : State) → ReadOff (read_back n 0 s) n rest mid → after ≡ state mid.n mid.left (code ∷ mid.codes)
+        → length mid.left + suc (length mid.codes) ≤ 256 → ReadOff (read_back n 0 (c ∷ s)) n rest after
+    unfolding term codes
+    sign-ended code e mid r a room =
+        let m = from-sign code last e in
+        rw a (record { tree = signed m.to r.tree; is = last_at (side m.to) m.is ∙ rw r.is; stored = rw (r.stored, m.coded); same = r.same; room = room })
 
     -- a closing bracket: no place is read yet
-    pub atom_closing : ending_of last ≡ Closing → (after : List ℕ) (r : Option Part) → ReadBefore (λ ws. around_back n ws (backward text (end - 1))) 0 to before after r
-        → Read (read_back n 0 (backward text end)) to before after r
+    pub closing_read : ending_of last ≡ Closing → (r : Option (Unit {0})) → ReadBefore (λ ws. around_back n ws s) 0 (state n s rest) after r → Read (read_back n 0 (c ∷ s)) (state n (c ∷ s) rest) after r
     unfolding places term codes
-    atom_closing e after r h =
-        let k = h.whole no_place (drop to before) refl refl in
-        let z : to + 0 ≡ to = omega arith in
-        let x : read_back n 0 (backward text end) ≡ around_back n no_place (backward text (end - 1)) = last_at ∙ rw (from_closing last e) in
-        rw x (rw z at k)
+    closing_read e r h =
+        let i = last_at closing (from_closing last e) in
+        handed r h (λ k. i ∙ k no_place refl) (λ u k. rw i (k no_place rest refl refl))
+
+  pub sign_none : (code : ℕ) → ending_of last ≡ Sign code → read_back n 0 s ≡ no_text → read_back n 0 (c ∷ s) ≡ no_text
+  sign_none code e g = let m = from-sign code last e in last_at (side m.to) m.is ∙ rw g
+
+  pub atom_other : ending_of last ≡ Other → read_back n 0 (c ∷ s) ≡ no_text
+  atom_other e = last_at other (from-other last e)
 
 -- ---- a list, by what stands before its last part
 
@@ -239,37 +169,73 @@ pub last_rank : (j : Joiner) → join_rank j - 1 ≡ part_rank j
 last_rank both = refl
 last_rank either = refl
 
-module _ (n : ℕ) (j : Joiner) (text : List ℕ) (end to : ℕ) (before : List ℕ) where
-  pub list_none : (after : List ℕ) → length after ≡ length before → read_back n (part_rank j) (backward text end) ≡ no_text → Read (read_back n (join_rank j) (backward text end)) to before after None
-  list_none after z e = read_none _ to _ before after z (list_step n j (backward text end) ∙ rw e)
+module _ (j : Joiner) (before : State) where
+  abbrev listed : Back
+  listed = read_back before.n (join_rank j) before.left
 
-  module _ (mid : List ℕ) (start from : ℕ) (g : Got n (part_rank j) text end to before mid start from) where
-    list_at : read_back n (join_rank j) (backward text end) ≡ joined_to j (read_back n (join_rank j)) g.tree (backward text start)
-    list_at = list_step n j (backward text end) ∙ rw g.is
+  pub list_none : read_back before.n (part_rank j) before.left ≡ no_text → listed ≡ no_text
+  list_none e = list_step before.n j before.left ∙ rw e
 
-    pub list_alone : ends_in (joiner j) (backward text start) ≡ false → Read (read_back n (join_rank j) (backward text end)) to before mid (part_from start from)
-    list_alone e = read_ended _ to _ before mid g.tree (backward text start) start from (list_at ∙ rw e) (sym (backward_long text start)) g.begins g.stored g.size
+  module _ (mid : State) (r : ReadOff (read_back before.n (part_rank j) before.left) before.n before.codes mid) where
+    list_at : listed ≡ joined_to j (read_back before.n (join_rank j)) r.tree mid.left
+    list_at = list_step before.n j before.left ∙ rw r.is
 
-    module _ (e : ends_in (joiner j) (backward text start) ≡ true) where
-      list_on : read_back n (join_rank j) (backward text end) ≡ leftward (read_back n (join_rank j) (backward text (start - 1))) (λ p left. ended (join j p g.tree) left)
-      list_on = list_at ∙ rw (e, backward_less text start)
+    pub list_alone : ends_in (joiner j) mid.left ≡ false → ReadOff listed before.n before.codes mid
+    list_alone h = record { tree = r.tree; is = list_at ∙ rw h; stored = r.stored; same = r.same; room = r.room }
 
-      pub list_more_none : (after : List ℕ) → length after ≡ length mid → read_back n (join_rank j) (backward text (start - 1)) ≡ no_text → Read (read_back n (join_rank j) (backward text end)) to before after None
-      list_more_none after y f = read_none _ to _ before after (y ∙ g.size) (list_on ∙ rw f)
+    module _ (e : ends_in (joiner j) mid.left ≡ true) (on : State) (p : on ≡ past mid) where
+      list_on : listed ≡ leftward (read_back on.n (join_rank j) on.left) (λ w left. ended (join j w r.tree) left)
+      list_on = list_at ∙ rw (e, p, r.same)
 
-      pub list_more : (last : List ℕ) (first second : ℕ) → Got n (join_rank j) text (start - 1) from mid last first second → end ≤ to → to ≤ length before
-          → Read (read_back n (join_rank j) (backward text end)) to before (set last (second - 1) (join_code j)) (part_from first (second - 1))
+      pub list_more_none : read_back on.n (join_rank j) on.left ≡ no_text → listed ≡ no_text
+      list_more_none f = list_on ∙ rw f
+
+      pub list_more : (far after : State) → ReadOff (read_back on.n (join_rank j) on.left) on.n on.codes far → after ≡ state far.n far.left (join_code j ∷ far.codes)
+          → length far.left + suc (length far.codes) ≤ 256 → ReadOff listed before.n before.codes after
       unfolding term
-      list_more last first second k i m =
-          let x = ends_some text start (joiner j) e in
-          let gb : from ≡ to - length (codes (term g.tree)) = g.begins in
-          let s : length last ≡ length before = k.size ∙ g.size in
-          let gp : length (codes (term g.tree)) + start ≤ end = g.paid in
-          let kb : second ≡ from - length (codes (term k.tree)) = k.begins in
-          let kp : length (codes (term k.tree)) + first ≤ start - 1 = k.paid in
-          let jc : codes (term (join j k.tree g.tree)) ≡ join_code j ∷ (codes (term k.tree) ++ codes (term g.tree)) = join_codes j (term k.tree) (term g.tree) in
-          let c : length (codes (term (join j k.tree g.tree))) ≡ suc (length (codes (term k.tree)) + length (codes (term g.tree))) = ap length jc ∙ ap suc (length-append (codes (term k.tree)) (codes (term g.tree))) in
-          read_ended _ to _ before (set last (second - 1) (join_code j)) (join j k.tree g.tree) (backward text first) first (second - 1)
-          (list_on ∙ rw k.is) (sym (backward_long text first)) (omega arith)
-          (put-before last second (join_code j) (codes (term k.tree) ++ (codes (term g.tree) ++ drop to before)) (omega arith) (omega arith) (k.stored ∙ ap (λ (y : List ℕ). codes (term k.tree) ++ y) g.stored)
-          ∙ rw (jc, append_assoc)) (length-set last (second - 1) (join_code j) ∙ s)
+      list_more far after k a room =
+          let q : on.codes ≡ mid.codes = rw p in
+          let m : on.n ≡ mid.n = rw p in
+          rw a (record {
+            tree = join j k.tree r.tree;
+            is = list_on ∙ rw k.is;
+            stored = rw (k.stored, q, r.stored, join_codes j (term k.tree) (term r.tree)) (ap (◌∷◌ (join_code j)) (sym (append_assoc (codes (term k.tree)) (codes (term r.tree)) before.codes)));
+            same = k.same ∙ m ∙ r.same;
+            room = room;
+          })
+
+-- ---- one place more of a bracket or quorum
+
+module _ (many : ℕ) (before : State) where
+  abbrev Around : Trees → Back
+  Around ws = around_back before.n ws before.left
+
+  pub place_none : read_back before.n 2 before.left ≡ no_text → (ws : Trees) → places ws ≡ many → Around ws ≡ no_text
+  place_none h ws q = around_step before.n ws before.left ∙ rw h
+
+  module _ (mid : State) (r : ReadOff (read_back before.n 2 before.left) before.n before.codes mid) where
+    placed_at : (ws : Trees) → Around ws ≡ placed (around_back before.n) ws r.tree mid.left
+    placed_at ws = around_step before.n ws before.left ∙ rw r.is
+
+    -- what stands before the place is read as `next` says of all places
+    place_more : (next : Trees → Back) → ((ws : Trees) → Around ws ≡ next (place r.tree ws)) → (after : State) (x : Option (Unit {0}))
+        → ReadBefore next (many + 1) (past mid) after x → ReadBefore Around many before after x
+    unfolding places term codes
+    place_more next is after x h =
+        handed x h (λ k ws q. is ws ∙ k (place r.tree ws) (ap suc q ∙ sym (add-one many))) (λ u k ws rest q e.
+        let w = codes (term r.tree) in
+        let y = k (place r.tree ws) rest (ap suc q ∙ sym (add-one many)) (r.stored ∙ ap (λ (l : List ℕ). w ++ l) e ∙ sym (append_assoc w (codes_all (terms ws)) rest)) in
+        rw (is ws) (record { tree = y.tree; is = y.is; stored = y.stored; same = y.same ∙ r.same; room = y.room }))
+
+    pub place_comma : ends_in 0x2C mid.left ≡ true → (on after : State) (x : Option (Unit {0})) → on ≡ past mid
+        → ReadBefore (λ ws. around_back on.n ws on.left) (many + 1) on after x → ReadBefore Around many before after x
+    place_comma e on after x p h =
+        place_more (λ ws. around_back mid.n ws (drop 1 mid.left)) (λ ws. placed_at ws ∙ rw (e, r.same)) after x (rw p at h)
+
+    module _ (e : ends_in 0x2C mid.left ≡ false) where
+      pub place_open : ends_in 0x28 mid.left ≡ true → (on after : State) (x : Option (Unit {0})) → on ≡ past mid
+          → ReadBefore (λ ws. opened ws on.left) (many + 1) on after x → ReadBefore Around many before after x
+      place_open h on after x p k = place_more (λ ws. opened ws (drop 1 mid.left)) (λ ws. placed_at ws ∙ rw (e, h)) after x (rw p at k)
+
+      pub place_other : ends_in 0x28 mid.left ≡ false → (ws : Trees) → places ws ≡ many → Around ws ≡ no_text
+      place_other h ws q = placed_at ws ∙ rw (e, h)

@@ -1,12 +1,10 @@
--- What each case of the reader's answers stands for, and what reading at a place leaves in the scratch. Assumes nothing: these are definitions.
-use Rattle.std.specs.Prelude.{ℕ, zero, suc, ◌+◌, ◌-◌, ◌≤◌, ◌≡◌, List, [], ◌∷◌, ◌++◌, length, drop, get_or, Option, Some, None}
+-- What each case of the reader's answers stands for, and what reading off the end of a text leaves. Assumes nothing: these are definitions.
+use Rattle.std.specs.Prelude.{ℕ, ◌+◌, ◌<◌, ◌≤◌, ◌≡◌, List, ◌++◌, length, drop, get_or, Option, MatchOption}
 use Rattle.model.specs.Terms.{project_code, codes, codes_all}
-use Rattle.model.specs.Texts.{Trees, places, term, terms}
-use Rattle.model.specs.Notation.{Back, ended, no_text, Last, sole, side, closing, other, Number, number, no_number}
+use Rattle.model.specs.Texts.{Tree, Trees, places, term, terms}
+use Rattle.model.specs.Notation.{Back, ended, no_text, Last, sole, side, closing, other, number, read_number}
 use Rattle.notation.specs.declared.Ending.{Ending}
 use Rattle.notation.specs.declared.Ending.TheVariants.{Sole, Sign, Closing, Other}
-use Rattle.notation.specs.declared.Numeral.{Numeral}
-use Rattle.notation.specs.declared.Part.{Part}
 
 -- an atom of one character has one code
 abbrev pub ending_of : Last → Ending
@@ -15,49 +13,38 @@ ending_of (side s) = Sign (project_code s)
 ending_of closing = Closing
 ending_of other = Other
 
--- a number, and how many characters are left before it
-abbrev pub numeral_from : ℕ → ℕ → Option Numeral
-numeral_from value start = Some (record { value = value; start = start })
+-- A text that is being read in a job of n names: what is left of it, the last character first, and the codes read so far.
+pub record State : Type 0 where
+  pub n : ℕ
+  pub left : List ℕ
+  pub codes : List ℕ
 
-abbrev pub numeral_of : Number → Option Numeral
-numeral_of (number k left) = numeral_from k (length left)
-numeral_of no_number = None
+abbrev pub state : ℕ → List ℕ → List ℕ → State
+state n left codes = record { n = n; left = left; codes = codes }
 
--- the first `end` characters, the last one first
-unfoldable pub backward : List ℕ → ℕ → List ℕ
-backward text zero = []
-backward text (suc end) = get_or text end 0 ∷ backward text end
+-- past the last character
+abbrev pub past : State → State
+past s = state s.n (drop 1 s.left) s.codes
 
--- how many characters are left before the tree that was read, and where its codes start if they end at `to`
-abbrev pub part_from : ℕ → ℕ → Option Part
-part_from start from = Some (record { start = start; from = from })
+-- the number k was read
+pub record NumberRead (k : ℕ) (before after : State) : Type 0 where
+  pub is : read_number before.left ≡ number k after.left
+  pub less : length after.left < length before.left
+  pub same : after ≡ state before.n after.left before.codes
 
-abbrev pub part_of : ℕ → Back → Option Part
-part_of to (ended w left) = part_from (length left) (to - length (codes (term w)))
-part_of to no_text = None
+-- What reading leaves where the text is read as b: what is left before the tree that was read, whose codes stand before the rest.
+pub record ReadOff (b : Back) (n : ℕ) (rest : List ℕ) (after : State) : Type 0 where
+  pub tree : Tree
+  pub is : b ≡ ended tree after.left
+  pub stored : after.codes ≡ codes (term tree) ++ rest
+  pub same : after.n ≡ n
+  pub room : length after.left + length after.codes ≤ 256
 
--- the codes of what was read end at `to`, and behind them stands the rest
-abbrev pub Stored : ℕ → Back → List ℕ → List ℕ → Type 0
-Stored to (ended w left) rest after = drop (to - length (codes (term w))) after ≡ codes (term w) ++ rest
-Stored to no_text rest after = Unit {0}
+-- and what it answers, or that the text is none of the language
+abbrev pub Read : Back → State → State → Option (Unit {0}) → Type 0
+Read b before after r = MatchOption r (b ≡ no_text) (λ u. ReadOff b before.n before.codes after)
 
--- there are `end` characters, and at least as many bytes of the scratch before `to`
-pub record Room (text : List ℕ) (end to : ℕ) (scratch : List ℕ) : Type 0 where
-  pub within : end ≤ length text
-  pub enough : end ≤ to
-  pub inside : to ≤ 256
-  pub size : length scratch ≡ 256
-
--- What reading answers where the text is read as b, and leaves in the scratch: the codes, which end at `to`, and behind them the rest.
-pub record ReadTo (b : Back) (to : ℕ) (rest before after : List ℕ) (r : Option Part) : Type 0 where
-  pub answer : r ≡ part_of to b
-  pub stored : Stored to b rest after
-  pub size : length after ≡ length before
-
--- from `to` on all is as before
-abbrev pub Read : Back → ℕ → List ℕ → List ℕ → Option Part → Type 0
-Read b to before after r = ReadTo b to (drop to before) before after r
-
--- What reading before the last places of a bracket or quorum answers: whatever these places are, if there are as many, and their codes start at `to`.
-pub record ReadBefore (b : Trees → Back) (many to : ℕ) (before after : List ℕ) (r : Option Part) : Type 0 where
-  pub whole : (ws : Trees) (rest : List ℕ) → places ws ≡ many → drop to before ≡ codes_all (terms ws) ++ rest → ReadTo (b ws) (to + length (codes_all (terms ws))) rest before after r
+-- The same of reading before the last places of a bracket or quorum: whatever these places are, if there are as many, and their codes come first.
+abbrev pub ReadBefore : (Trees → Back) → ℕ → State → State → Option (Unit {0}) → Type 0
+ReadBefore b many before after r = MatchOption r ((ws : Trees) → places ws ≡ many → b ws ≡ no_text)
+    (λ u. (ws : Trees) (rest : List ℕ) → places ws ≡ many → before.codes ≡ codes_all (terms ws) ++ rest → ReadOff (b ws) before.n rest after)

@@ -1,14 +1,15 @@
 // Terms on paper (document 02, K1 and K4): texts are read to codes, from the end to the beginning.
 #![tactic(auto)]
 
-ghost use Rattle.std.specs.Prelude.{◌≡◌, ◌+◌, ◌-◌, ◌≤◌, length};
+ghost use Rattle.std.specs.Prelude.{◌≡◌, ◌+◌, ◌-◌, ◌≤◌, ◌<◌, cond, [], ◌∷◌, eqb, length, drop, reverse, MatchOption};
 ghost use Rattle.model.specs.Texts.{join_rank};
-ghost use Rattle.model.specs.Notation.{last_of, ends_in, read_number, opened, read_back, around_back, read_text};
+ghost use Rattle.model.specs.Notation.{no_number, last_of, ends_in, read_number, opened, read_back, around_back, read_text};
 ghost use Rattle.refusals.specs.Results.{outcome_of};
 ghost use Rattle.terms.specs.Joiners.{kind};
-ghost use Rattle.notation.specs.Reading.{ending_of, numeral_of, backward, Room, Read, ReadBefore};
+ghost use Rattle.notation.specs.Reading.{ending_of, State, state, past, NumberRead, Read, ReadBefore};
 
 use refusals::Refusal;
+use std::marker::Model;
 use terms::Joiner;
 
 // What a character is as the last of an atom.
@@ -20,20 +21,6 @@ enum Ending {
     Sign(u8),
     Closing,
     Other,
-}
-
-// What is read off the end of a text: how many characters are left before it, and where its codes start.
-#[derive(Clone, Copy, Debug, PartialEq, Eq)]
-struct Part {
-    start: usize,
-    from: usize,
-}
-
-// A number at the end of a text, and how many characters are left before it.
-#[derive(Clone, Copy, Debug, PartialEq, Eq)]
-struct Numeral {
-    value: u8,
-    start: usize,
 }
 
 #[tactic(auto, using(crate::proofs::Places::last_plain))]
@@ -51,202 +38,200 @@ fn ending_of(c: u8, n: u64) -> Ending
     }
 }
 
-// The first `end` characters end in c.
-fn ends_in(text: &[u8], end: usize, c: u8) -> bool
-    requires { end ≤ length text.now }
-    ensures { result ≡ ends_in c (backward text.now end) }
-{
-    0 < end && text[end - 1] == c
-}
-
-// The number that the first `end` characters end with: the last digit, and ten more where a 1 stands before it.
-// Kept: it is read from its end, and where it begins is not known, so that there is no part to parse.
-fn read_number(text: &[u8], end: usize) -> Option<Numeral>
-    requires { end ≤ length text.now }
-    ensures { result ≡ numeral_of (read_number (backward text.now end)) }
-{
-    if end == 0 {
-        return None;
-    }
-    let start = end - 1;
-    let c = text[start];
-    if c < b'0' || b'9' < c {
-        return None;
-    }
-    let digit = c - b'0';
-    if ends_in(text, start, b'1') {
-        return Some(Numeral {
-            value: 10 + digit,
-            start: start - 1,
-        });
-    }
-    Some(Numeral {
-        value: digit,
-        start,
-    })
-}
-
-// Ends the reading of `many` places, whose codes start at `to`. Their opening bracket stands behind the first `end` characters: where a number stands before it
-// they are those of a quorum, and k, m and its code are put before theirs; otherwise it is one place, a text in brackets.
-fn read_opening(
-    text: &[u8],
-    end: usize,
-    scratch: &mut [u8; 256],
-    to: usize,
-    many: usize,
-) -> Option<Part>
-    requires { Room text.now end to scratch.old }
-    ensures { ReadBefore (λ ws. opened ws (backward text.now end)) many to scratch.old scratch.new result }
-{
-    let Some(m) = read_number(text, end) else {
-        if many == 1 {
-            return Some(Part {
-                start: end,
-                from: to,
-            });
-        }
-        return None;
-    };
-    if m.value as usize != many {
-        return None;
-    }
-    if !ends_in(text, m.start, b':') {
-        return None;
-    }
-    let k = read_number(text, m.start - 1)?;
-    if !terms::in_range(k.value, m.value) {
-        return None;
-    }
-    scratch[to - 1] = m.value;
-    scratch[to - 2] = k.value;
-    scratch[to - 3] = 0x32;
-    Some(Part {
-        start: k.start,
-        from: to - 3,
-    })
-}
-
-// Reads the rest of a text in brackets, or of a quorum, of which `many` places are read already: the either-list that the first `end` characters end with is
-// one more, and before it stands a comma, or the opening bracket.
-#[cycle(read_atom_read_last_read_list_read_places)]
-fn read_places(
+// A text that is read from its end, in a job of n names: what is left of it, and the codes read so far, at the end of a scratch that has a byte for each
+// character of a text.
+#[derive(Drop)]
+struct Reader<'a> {
     n: u64,
-    text: &[u8],
-    end: usize,
-    scratch: &mut [u8; 256],
-    to: usize,
-    many: usize,
-) -> Option<Part>
-    requires { Room text.now end to scratch.old × (many + end ≤ 256) }
-    ensures { ReadBefore (λ ws. around_back n ws (backward text.now end)) many to scratch.old scratch.new result }
-{
-    let place = read_list(Joiner::Either, n, text, end, scratch, to)?;
-    if ends_in(text, place.start, b',') {
-        return read_places(n, text, place.start - 1, scratch, place.from, many + 1);
-    }
-    if !ends_in(text, place.start, b'(') {
-        return None;
-    }
-    read_opening(text, place.start - 1, scratch, place.from, many + 1)
+    left: &'a [u8],
+    scratch: [u8; 256],
+    from: usize,
 }
 
-// Reads the atom that the first `end` characters end with. Its codes are put into the scratch, right before `to`.
-#[cycle(read_atom_read_last_read_list_read_places)]
-fn read_atom(n: u64, text: &[u8], end: usize, scratch: &mut [u8; 256], to: usize) -> Option<Part>
-    requires { Room text.now end to scratch.old }
-    ensures { Read (read_back n 0 (backward text.now end)) to scratch.old scratch.new result }
-{
-    if end == 0 {
-        return None;
-    }
-    let last = end - 1;
-    match ending_of(text[last], n) {
-        Ending::Sole(code) => {
-            scratch[to - 1] = code;
-            Some(Part {
-                start: last,
-                from: to - 1,
-            })
+impl<'a> Model for Reader<'a> {
+    ghost Value = { State };
+
+    ghost view = { λ r. state r.n (reverse r.left.now) (drop r.from r.scratch) };
+
+    ghost invariant = { λ r. (length r.left.now ≤ r.from) × (r.from ≤ 256) };
+}
+
+impl<'a> Reader<'a> {
+    fn new(n: u64, text: &'a [u8]) -> Reader<'a>
+        requires { length text.now ≤ 256 }
+        ensures { result ≡ state n (reverse text.now) [] }
+    {
+        Reader {
+            n,
+            left: text,
+            scratch: [0; 256],
+            from: 256,
         }
-        Ending::Sign(code) => {
-            let part = read_atom(n, text, last, scratch, to)?;
-            scratch[part.from - 1] = code;
-            Some(Part {
-                start: part.start,
-                from: part.from - 1,
-            })
+    }
+
+    // The codes read so far.
+    fn codes(&self) -> &[u8]
+        ensures { result.now ≡ self.now.codes }
+    {
+        &self.scratch[self.from..]
+    }
+
+    // All of the text is read.
+    fn is_done(&self) -> bool
+        ensures { result ≡ eqb (length self.now.left) 0 }
+    {
+        self.left.is_empty()
+    }
+
+    // One code more, before the others.
+    fn put(&mut self, code: u8)
+        requires { length self.old.left + length self.old.codes < 256 }
+        ensures { self.new ≡ state self.old.n self.old.left (code ∷ self.old.codes) }
+    {
+        self.from -= 1;
+        self.scratch[self.from] = code;
+    }
+
+    // Passes over the last character, if it is c.
+    fn pass(&mut self, c: u8) -> bool
+        ensures told { result ≡ ends_in c self.old.left }
+        ensures passed { self.new ≡ cond result (past self.old) self.old }
+    {
+        let Some(left) = self.left.strip_suffix(&[c]) else {
+            return false;
+        };
+        self.left = left;
+        true
+    }
+
+    // Reads the number that the text ends with: the last digit, and ten more where a 1 stands before it.
+    // Kept: it is read from its end, and where it begins is not known, so that there is no part to parse.
+    fn number(&mut self) -> Option<u8>
+        ensures read { MatchOption result ((read_number self.old.left ≡ no_number) × (self.new ≡ self.old)) (λ k. NumberRead k self.old self.new) }
+        ensures room { length self.old.left + length self.old.codes ≤ 256 }
+    {
+        let (k, left) = match self.left {
+            [left @ .., b'1', c @ b'0'..=b'9'] => (10 + (*c - b'0'), left),
+            [left @ .., c @ b'0'..=b'9'] => (*c - b'0', left),
+            _ => return None,
+        };
+        self.left = left;
+        Some(k)
+    }
+
+    // Ends the reading of `many` places, whose codes are the first of those read, and whose opening bracket is passed: where a number stands before it they
+    // are those of a quorum, and its code, k and m are put before theirs; otherwise it is one place, a text in brackets.
+    fn opening(&mut self, many: usize) -> Option<()>
+        ensures { ReadBefore (λ ws. opened ws self.old.left) many self.old self.new result }
+    {
+        let Some(m) = self.number() else {
+            if many == 1 {
+                return Some(());
+            }
+            return None;
+        };
+        if m as usize != many {
+            return None;
         }
-        Ending::Closing => read_places(n, text, last, scratch, to, 0),
-        Ending::Other => None,
+        if !self.pass(b':') {
+            return None;
+        }
+        let k = self.number()?;
+        if !terms::in_range(k, m) {
+            return None;
+        }
+        self.put(m);
+        self.put(k);
+        self.put(0x32);
+        Some(())
+    }
+
+    // Reads the rest of a text in brackets, or of a quorum, of which `many` places are read already: the either-list that the text ends with is one more,
+    // and before it stands a comma, or the opening bracket.
+    #[cycle(atom_last_part_list_places)]
+    fn places(&mut self, many: usize) -> Option<()>
+        requires { many + length self.old.left ≤ 256 }
+        ensures { ReadBefore (λ ws. around_back self.old.n ws self.old.left) many self.old self.new result }
+    {
+        self.list(Joiner::Either)?;
+        if self.pass(b',') {
+            return self.places(many + 1);
+        }
+        if !self.pass(b'(') {
+            return None;
+        }
+        self.opening(many + 1)
+    }
+
+    // Reads the atom that the text ends with.
+    #[cycle(atom_last_part_list_places)]
+    fn atom(&mut self) -> Option<()>
+        ensures { Read (read_back self.old.n 0 self.old.left) self.old self.new result }
+    {
+        let [left @ .., last] = self.left else {
+            return None;
+        };
+        self.left = left;
+        match ending_of(*last, self.n) {
+            Ending::Sole(code) => self.put(code),
+            Ending::Sign(code) => {
+                self.atom()?;
+                self.put(code);
+            }
+            Ending::Closing => return self.places(0),
+            Ending::Other => return None,
+        }
+        Some(())
+    }
+
+    // Reads the last part of a list that the text ends with: an atom of a both-list, a both-list of an either-list.
+    #[cycle(atom_last_part_list_places)]
+    fn last_part(&mut self, joiner: Joiner) -> Option<()>
+        ensures { Read (read_back self.old.n (join_rank (kind joiner) - 1) self.old.left) self.old self.new result }
+    {
+        match joiner {
+            Joiner::Both => self.atom(),
+            Joiner::Either => self.list(Joiner::Both),
+        }
+    }
+
+    // Reads the list of the joiner that the text ends with: its last part, and where the joiner stands before that, the list on the left.
+    #[cycle(atom_last_part_list_places)]
+    fn list(&mut self, joiner: Joiner) -> Option<()>
+        ensures { Read (read_back self.old.n (join_rank (kind joiner)) self.old.left) self.old self.new result }
+    {
+        self.last_part(joiner)?;
+        if self.pass(joiner.mark()) {
+            self.list(joiner)?;
+            self.put(joiner.code());
+        }
+        Some(())
     }
 }
 
-// Reads the last part of a list that the first `end` characters end with: an atom of a both-list, a both-list of an either-list.
-#[cycle(read_atom_read_last_read_list_read_places)]
-fn read_last(
-    joiner: Joiner,
-    n: u64,
-    text: &[u8],
-    end: usize,
-    scratch: &mut [u8; 256],
-    to: usize,
-) -> Option<Part>
-    requires { Room text.now end to scratch.old }
-    ensures { Read (read_back n (join_rank (kind joiner) - 1) (backward text.now end)) to scratch.old scratch.new result }
-{
-    match joiner {
-        Joiner::Both => read_atom(n, text, end, scratch, to),
-        Joiner::Either => read_list(Joiner::Both, n, text, end, scratch, to),
-    }
-}
-
-// Reads the list of the joiner that the first `end` characters end with: its last part, and where the joiner stands before that, the list on the left.
-#[cycle(read_atom_read_last_read_list_read_places)]
-fn read_list(
-    joiner: Joiner,
-    n: u64,
-    text: &[u8],
-    end: usize,
-    scratch: &mut [u8; 256],
-    to: usize,
-) -> Option<Part>
-    requires { Room text.now end to scratch.old }
-    ensures { Read (read_back n (join_rank (kind joiner)) (backward text.now end)) to scratch.old scratch.new result }
-{
-    let part = read_last(joiner, n, text, end, scratch, to)?;
-    if !ends_in(text, part.start, joiner.mark()) {
-        return Some(part);
-    }
-    let list = read_list(joiner, n, text, part.start - 1, scratch, part.from)?;
-    scratch[list.from - 1] = joiner.code();
-    Some(Part {
-        start: list.start,
-        from: list.from - 1,
-    })
-}
-
-// Takes n, a text and a buffer of 64 bytes, for its codes, and gives how many they are. They are read into a scratch, which has a byte for each character, so
-// that a refused text leaves the buffer as it was. Later bytes keep their content.
+// Takes n, a text and a buffer of 64 bytes, for its codes, and gives how many they are. They are read into a scratch, so that a refused text leaves the
+// buffer as it was. Later bytes keep their content.
 pub fn read_text(n: u64, text: &[u8], codes: &mut [u8]) -> Result<usize, Refusal>
     ensures { outcome_of result codes.new ≡ read_text n text.now codes.old }
 {
-    if n < 1 || 12 < n {
+    if !(1..=12).contains(&n) {
         return Err(Refusal::Names);
     }
-    if text.len() < 1 || 256 < text.len() || codes.len() != 64 {
+    if !(1..=256).contains(&text.len()) || codes.len() != 64 {
         return Err(Refusal::TextLength);
     }
-    let mut scratch = [0u8; 256];
-    let Some(read) = read_list(Joiner::Either, n, text, text.len(), &mut scratch, 256) else {
-        return Err(Refusal::NoText);
-    };
-    if read.start != 0 {
+    let mut reader = Reader::new(n, text);
+    if reader.list(Joiner::Either).is_none() {
         return Err(Refusal::NoText);
     }
-    if read.from < 192 {
+    if !reader.is_done() {
+        return Err(Refusal::NoText);
+    }
+    let read = reader.codes();
+    let count = read.len();
+    if 64 < count {
         return Err(Refusal::TextCodes);
     }
-    let count = 256 - read.from;
-    codes[..count].copy_from_slice(&scratch[read.from..]);
+    codes[..count].copy_from_slice(read);
     Ok(count)
 }

@@ -1,43 +1,62 @@
 -- Each return is a law of `proofs/Calls.antt`.
-use Rattle.std.proofs.Common.{ℕ, ◌-◌, ◌++◌, List, length, drop, replicate, ap, arith, inl, inr}
-use mathlib.Core.Logic.{⊎_elim}
-use Rattle.notation.proofs.Places.{Got, got, got_none}
-use Rattle.notation.proofs.Calls.{text_7, text_81, buffer_81, text_82, left_82, text_83, text_codes_lem}
+use Rattle.std.proofs.Common.{◌≡◌, ◌&&◌, true, [], length, reverse, sym, ◌∙◌, rules, arith, inl, inr}
+use lib.Dec.{eqb, leb}
+use borrow.Author.Tests.{eq-eqb, ne_eqb}
+use Rattle.notation.proofs.Places.{read_none, read_some}
+use Rattle.model.specs.Terms.{job_size}
+use Rattle.model.specs.Notation.{read_back, text_length}
+use Rattle.notation.specs.Reading.{ReadOff}
+use Rattle.notation.proofs.Calls.{text_7, text_81, text_82, left_82, text_83, text_codes_lem}
 use Rattle.notation.proofs.read_text.Goals as goal
-use Rattle.notation.proofs.read_text.Goals.{In-Some}
+use Rattle.notation.proofs.read_text.Goals.{After-contains, After-contains-2, After-new-reader, Else-is_none}
 
-pub returns-then-n-lt1 : goal.returns-then-n-lt1
-returns-then-n-lt1 c = text_7 _ _ _ (⊎_elim (λ h. inl h) (λ h. inr h.1) c.then-n-lt1.either)
+-- what the tests of n and of the text's length say
+told : (c : After-contains) → c.contains.result ≡ (leb 1 c.args.n && leb c.args.n 12)
+told c = search rules
 
-pub returns-then-text-lt1 : goal.returns-then-text-lt1
-returns-then-text-lt1 c = elim c.then-text-lt1.either [
-  | inl h ↦ text_81 _ _ _ (omega arith) (omega arith) (inl h)
-  | inr h ↦ elim h [
-    | inl i ↦ text_81 _ _ _ (omega arith) (omega arith) (inr i.1)
-    | inr i ↦ buffer_81 _ _ _ (omega arith) (omega arith) (omega arith) (omega arith) (λ e. omega arith)
-  ]
-]
+told_text : (c : After-contains-2) → c.contains-2.result ≡ (leb 1 (length c.args.text.now) && leb (length c.args.text.now) 256)
+told_text c = search rules
 
-pub returns-in_default : goal.returns-in_default
-returns-in_default c =
-    text_82 _ _ _ (omega arith) (omega arith) (omega arith) (omega arith) (omega arith)
-    (got_none c.args.n 2 c.args.text.now (length c.args.text.now) 256 (replicate 256 0) c.read_list.new.scratch c.read_list.result c.read_list.ensures c.in_default.is)
+pub returns-then-not-contains : goal.returns-then-not-contains
+returns-then-not-contains c = text_7 _ _ _ (sym (told (goal.at.returns-then-not-contains c).After-contains) ∙ c.if-not-contains.true)
+
+pub returns-then-not-contains-2 : goal.returns-then-not-contains-2
+returns-then-not-contains-2 c =
+    let p = goal.at.returns-then-not-contains-2 c in
+    let few = sym (told p.After-contains) ∙ c.if-not-contains.false in
+    text_81 _ _ _ few (elim c.then-not-contains-2.either [
+      | inl h ↦ rw (sym (told_text p.After-contains-2) ∙ h)
+      | inr h ↦ rw (sym (told_text p.After-contains-2) ∙ h.0, ne_eqb (length c.args.codes.now) 64 h.1)
+    ])
+
+-- n, the text and the buffer are fit
+few : (c : After-new-reader) → job_size c.args.n ≡ true
+few c = sym (told (goal.at.After-new-reader c).After-contains) ∙ c.if-not-contains.false
+
+fits : (c : After-new-reader) → (text_length (length c.args.text.now) && eqb (length c.args.codes.now) 64) ≡ true
+fits c = rw (sym (told_text (goal.at.After-new-reader c).After-contains-2) ∙ c.if-not-contains-2.false, eq-eqb (length c.args.codes.now) 64 c.if-codes-ne64.false)
+
+pub returns-then-is_none : goal.returns-then-is_none
+returns-then-is_none c =
+    let p = (goal.at.returns-then-is_none c).After-new-reader in
+    text_82 _ _ _ (few p) (fits p) (rw c.new-reader.ensures at (read_none _ c.new-reader.result c.list.new.self c.list.result c.if-is_none.ensures c.list.ensures))
 
 -- what was read
-whole : (c : In-Some) → Got c.args.n 2 c.args.text.now (length c.args.text.now) 256 (replicate 256 0) c.read_list.new.scratch c.in-Some.read.start c.in-Some.read.from
-whole c = got c.args.n 2 c.args.text.now (length c.args.text.now) 256 (replicate 256 0) c.read_list.new.scratch _ _ c.read_list.result c.read_list.ensures c.in-Some.is
+whole : (c : Else-is_none) → ReadOff (read_back c.args.n 2 (reverse c.args.text.now)) c.args.n [] c.list.new.self
+whole c = rw c.new-reader.ensures at (read_some _ c.new-reader.result c.list.new.self c.list.result c.if-is_none.ensures c.list.ensures)
 
-pub returns-then-read-ne0 : goal.returns-then-read-ne0
-returns-then-read-ne0 c =
-    left_82 _ _ _ (omega arith) (omega arith) (omega arith) (omega arith) (omega arith) _ _ _ _ (whole (goal.at.returns-then-read-ne0 c).In-Some) (λ e. omega arith)
+pub returns-then-not-is_done : goal.returns-then-not-is_done
+returns-then-not-is_done c =
+    let p = goal.at.returns-then-not-is_done c in
+    left_82 _ _ _ (few p.After-new-reader) (fits p.After-new-reader) _ (whole p.Else-is_none) (sym c.is_done.ensures ∙ c.if-not-is_done.true)
 
-pub returns-then-read-lt192 : goal.returns-then-read-lt192
-returns-then-read-lt192 c =
-    text_83 _ _ _ (omega arith) (omega arith) (omega arith) (omega arith) (omega arith) _ _ _ _ (whole (goal.at.returns-then-read-lt192 c).In-Some) (omega arith) (omega arith)
+pub returns-then-count-gt64 : goal.returns-then-count-gt64
+returns-then-count-gt64 c =
+    let p = goal.at.returns-then-count-gt64 c in
+    text_83 _ _ _ (few p.After-new-reader) (fits p.After-new-reader) _ (whole p.Else-is_none) (sym c.is_done.ensures ∙ c.if-not-is_done.false) (rw⁻¹ c.codes-read.ensures c.if-count-gt64.true)
 
 pub returns : goal.returns
 returns c =
-    let s = c.read_list.new.scratch in
-    let from = c.in-Some.read.from in
-    text_codes_lem _ _ _ (omega arith) (omega arith) (omega arith) (omega arith) (omega arith) _ _ _ _ (whole (goal.at.returns c).In-Some) (omega arith) (omega arith) (omega arith) _
-    (ap (λ (r : List ℕ). r ++ drop (256 - from) c.args.codes.now) c.copy_from_slice.ensures.after)
+    let p = goal.at.returns c in
+    rw (c.copy_from_slice.ensures.after, c.codes-read.ensures)
+    (text_codes_lem _ _ _ (few p.After-new-reader) (fits p.After-new-reader) _ (whole p.Else-is_none) (sym c.is_done.ensures ∙ c.if-not-is_done.false) (rw⁻¹ c.codes-read.ensures (omega arith)))

@@ -26,6 +26,7 @@ const DAY: u32 = 20240131;
 const GOOD: [u8; 1] = [0x21];
 
 // An eight-byte field, big-endian.
+// Kept: as two fields of four bytes, so that a byte that is missing counts as 00 here too.
 fn eight_bytes(bytes: &[u8], at: usize) -> u64
     requires { at + 4 < 2 ^ 64 }
     ensures { result ≡ eight_bytes at bytes.now }
@@ -211,8 +212,19 @@ fn unpack(packed: &[u8], to: &mut [u8]) -> Option<usize>
 
 // Case R: the parts of a record, and the call.
 
-// The length of input k: 0 the ledger, 1 p (of a short form and of writing, the term; of reading, the text; of a list, its calls), 2 q, 3 the label,
-// 4 the derivation.
+// The inputs of a record, in their order. P is also a term, a text, or a list's calls.
+// Kept: numbers, since the inputs stand one after another and are counted.
+const LEDGER: usize = 0;
+
+const P: usize = 1;
+
+const Q: usize = 2;
+
+const LABEL: usize = 3;
+
+const DERIVATION: usize = 4;
+
+// The length of input k.
 fn input_length(unpacked: &[u8], k: usize) -> u32
     requires { k < 5 }
     ensures { result ≡ input_length k unpacked.now }
@@ -292,12 +304,13 @@ impl Operation {
 
 impl Call {
     // The number that the engine gives. What a call doesn't take is empty.
+    // Kept: where each number of a record stands is as tests/make_cases.c has it, here and below.
     fn number(self, unpacked: &[u8], buffer: &mut [u8]) -> u32 {
-        let ledger = input(unpacked, 0);
-        let p = input(unpacked, 1);
-        let q = input(unpacked, 2);
-        let label = input(unpacked, 3);
-        let derivation = input(unpacked, 4);
+        let ledger = input(unpacked, LEDGER);
+        let p = input(unpacked, P);
+        let q = input(unpacked, Q);
+        let label = input(unpacked, LABEL);
+        let derivation = input(unpacked, DERIVATION);
         let names = eight_bytes(unpacked, 4);
         let first = four_bytes(unpacked, 4);
         let second = four_bytes(unpacked, 8);
@@ -319,14 +332,15 @@ impl Call {
 // The engine gives the expected number, and the buffer is afterwards as expected.
 fn call_agrees(asked: Call, unpacked: &[u8], expected: &[u8], space: &mut [u8]) -> bool {
     let room = four_bytes(unpacked, 32) as usize;
-    let value = four_bytes(unpacked, 36);
     let Some(buffer) = space.get_mut(..room) else {
         return false;
     };
-    if 255 < value || expected.len() != four_bytes(unpacked, 44) as usize {
+    let Ok(before) = u8::try_from(four_bytes(unpacked, 36)) else {
+        return false;
+    };
+    if expected.len() != four_bytes(unpacked, 44) as usize {
         return false;
     }
-    let before = value as u8;
     buffer.fill(before);
     asked.number(unpacked, buffer) == four_bytes(unpacked, 40)
         && is_written(buffer, expected, before)
@@ -334,9 +348,9 @@ fn call_agrees(asked: Call, unpacked: &[u8], expected: &[u8], space: &mut [u8]) 
 
 // The engine quotes the expected part of the ledger.
 fn quote_agrees(unpacked: &[u8]) -> bool {
-    let ledger = input(unpacked, 0);
-    let label = input(unpacked, 3);
-    let derivation = input(unpacked, 4);
+    let ledger = input(unpacked, LEDGER);
+    let label = input(unpacked, LABEL);
+    let derivation = input(unpacked, DERIVATION);
     let day = four_bytes(unpacked, 48);
     let quoted = derivations::quote(derivation, ledger, label, day, eight_bytes(unpacked, 4));
     let start = four_bytes(unpacked, 40) as usize;
@@ -371,6 +385,7 @@ impl Held {
             ledger,
             numbers,
         } = self;
+        // Kept: the byte says which call it is, and is asked here alone.
         let given = match asked[0] {
             0 => live_calls::trials_live_make(number, first, day, head, text, ledger, numbers),
             1 => live_calls::trials_live_add(head, text, ledger, numbers, first),
@@ -433,7 +448,7 @@ fn agrees(unpacked: &[u8], space: &mut [u8]) -> bool {
     match Operation::of(four_bytes(unpacked, 0)) {
         Some(Operation::Call(asked)) => call_agrees(asked, unpacked, expected, space),
         Some(Operation::Quoting) => expected.is_empty() && quote_agrees(unpacked),
-        Some(Operation::List) => list_agrees(input(unpacked, 1), expected),
+        Some(Operation::List) => list_agrees(input(unpacked, P), expected),
         None => false,
     }
 }

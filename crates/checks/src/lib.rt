@@ -8,7 +8,7 @@ ghost use Rattle.checks.specs.Blocks.{whole_checked};
 
 // One row of bytes more in the sums of 16 columns: `sums` takes up the row, and `runs` what `sums` was before. So a byte counts once in
 // `sums`, and in `runs` once for each row that is added after its own.
-// Kept: two arrays, since eight sums that stand side by side are added at a time.
+// Kept: two arrays and not pairs: a row is added to the sums, and the sums to the runs, each as a list, as the definitions say it.
 fn add_row(sums: &mut [u16; 16], runs: &mut [u16; 16], row: &[u8])
     requires { Columns 15 sums.old runs.old × (length row.now ≡ 16) }
     ensures { (sums.new ≡ added 16 sums.old row.now) × (runs.new ≡ added 16 runs.old sums.old) }

@@ -13,7 +13,7 @@ pub fn filler(part: &[u8]) -> bool
 }
 
 // A two-byte field, big-endian, as a number. A byte that is missing counts as 00.
-// Kept: a number of each size is a type of its own, here and below, and what is left where bytes are missing is another.
+// Kept: numbers of two sizes are two types, here and below, and where bytes are missing each is made up of those that are there in its own way.
 pub fn two_bytes(bytes: &[u8], at: usize) -> u16
     ensures { result ≡ two_bytes at bytes.now }
 {

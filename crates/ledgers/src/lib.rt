@@ -170,6 +170,7 @@ pub fn read_book(ledger: &[u8], label: &[u8]) -> Result<Sizes, Refusal>
 }
 
 // The block of grant k, a part of the ledger; an empty part where there is none.
+// Kept: an empty part, here and below, as document 01's definitions have it on any bytes: what is read off it counts as 00.
 pub fn grant_block(ledger: &[u8], k: usize) -> &[u8]
     ensures { result.now ≡ grant_block ledger.now k }
 {

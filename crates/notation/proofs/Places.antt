@@ -3,14 +3,17 @@ use Prim.Native.Nat.{ℕ, suc, ◌+◌, ◌-◌, ◌<◌, ◌≤◌}
 use native.Mathlib.Omega.{arith}
 use native.Mathlib.Numerals.{add-one}
 use mathlib.Core.Path.{◌≡◌, refl, sym, ap, ◌∙◌}
-use mathlib.Core.Bool.{true, false, cond, ◌&&◌, false≢true, and-true}
+use mathlib.Core.Bool.{true, false, cond, ◌&&◌, and-true}
 use mathlib.Core.List.{List, [], ◌∷◌, ◌++◌, append_assoc, reverse, reverse-append}
 use lib.Dec.{eqb, leb, ltb}
 use lib.ListN.{length, take, drop, get_or, length-append, drop_of_length-le}
 use lib.Pointwise.{pointwise}
 use lib.Seq.{take-suc, take-length, drop-cons}
 use borrow.Author.Tests.{ne_eqb}
-use Rattle.std.specs.Prelude.{Option, Some, None, is_some, MatchOption}
+use Rattle.std.specs.Prelude.{Option, Some, None, Ok, Err, MatchOption}
+use Rattle.std.specs.Option.{ok_or}
+use Rattle.refusals.specs.declared.Refusal.{Refusal}
+use Rattle.refusals.specs.declared.Refusal.TheVariants.{NoText}
 use Rattle.model.specs.Sides.{Side}
 use Rattle.model.specs.Terms.{project_code, codes, codes_all}
 use Rattle.model.specs.Texts.{Joiner, both, either, Tree, letter, signed, join, Trees, no_place, place, places, joiner, term, terms, join_rank}
@@ -54,13 +57,13 @@ one_less s c e = ap length (ends_in_lem c s e)
 pub passed_less : (c : ℕ) (mid on : State) → ends_in c mid.left ≡ true → on ≡ past mid → (length mid.left ≡ suc (length on.left)) × (length on.codes ≡ length mid.codes)
 passed_less c mid on e p = rw p (one_less mid.left c e, refl)
 
-pub read_none : (b : Back) (before after : State) (r : Option (Unit {0})) → is_some r ≡ false → Read b before after r → b ≡ no_text
-read_none b before after None e h = h
-read_none b before after (Some u) e h = absurd (false≢true (sym e))
+pub read_ok : (b : Back) (before after : State) (r : Option (Unit {0})) (u : Unit {0}) → ok_or r NoText ≡ Ok u → Read b before after r → ReadOff b before.n before.codes after
+read_ok b before after None u e h = cc
+read_ok b before after (Some v) u e h = h
 
-pub read_some : (b : Back) (before after : State) (r : Option (Unit {0})) → is_some r ≡ true → Read b before after r → ReadOff b before.n before.codes after
-read_some b before after None e h = absurd (false≢true e)
-read_some b before after (Some u) e h = h
+pub read_err : (b : Back) (before after : State) (r : Option (Unit {0})) (why : Refusal) → ok_or r NoText ≡ Err why → Read b before after r → (b ≡ no_text) × (why ≡ NoText)
+read_err b before after None why e h = (h, cc)
+read_err b before after (Some v) why e h = cc
 
 -- ---- how long what was read is: a tree has a code, and a character for each
 

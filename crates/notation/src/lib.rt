@@ -27,6 +27,7 @@ enum Ending {
 fn ending_of(c: u8, n: u64) -> Ending
     ensures { result ≡ ending_of (last_of n c) }
 {
+    // Kept: with an enum of all codes in the stead of the bytes, each code would be made here and taken apart where it is put.
     match c {
         b'*' => Ending::Sole(0x20),
         b'_' => Ending::Sole(0x21),
@@ -44,6 +45,7 @@ fn ending_of(c: u8, n: u64) -> Ending
 struct Reader<'a> {
     n: u64,
     left: &'a [u8],
+    // Kept: no heap: the codes stand in an array as long as the longest text.
     scratch: [u8; 256],
     from: usize,
 }
@@ -221,9 +223,7 @@ pub fn read_text(n: u64, text: &[u8], codes: &mut [u8]) -> Result<usize, Refusal
         return Err(Refusal::TextLength);
     }
     let mut reader = Reader::new(n, text);
-    if reader.list(Joiner::Either).is_none() {
-        return Err(Refusal::NoText);
-    }
+    reader.list(Joiner::Either).ok_or(Refusal::NoText)?;
     if !reader.is_done() {
         return Err(Refusal::NoText);
     }

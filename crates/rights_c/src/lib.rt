@@ -9,7 +9,7 @@ ghost use Rattle.model.specs.ShortForms.{shorten};
 ghost use Rattle.model.specs.Derivations.{check_derivation};
 
 // Does p act for q under the label, on the day?
-// Kept: C has a name for each.
+// Kept: a crate is a library or an archive for C, so that a call stands in both, and C has a name for each.
 #[unsafe(no_mangle)]
 pub extern "C" fn rights_acts_for(ledger: &[u8], p: &[u8], q: &[u8], label: &[u8], day: u32) -> u32
     ensures { result ≡ number (acts_for ledger.now p.now q.now label.now day) }

@@ -79,6 +79,7 @@ enum Shape {
     Other,
 }
 
+// Kept: an enum of all codes would be made of the byte as here, and then taken apart for its shape.
 #[tactic(auto, unfolding(model::specs::Terms::code_of))]
 fn shape_of(code: u8, n: u64) -> Shape
     ensures { result ≡ shape_of (code_of n code) }

@@ -10,7 +10,7 @@ ghost use Rattle.model.specs.Notation.{read_text, write_term};
 ghost use Rattle.trials.specs.Figures.{sum_number, test_on, side_numbered, test_number};
 
 // Reads a text to codes in a job of n names.
-// Kept: C has a name for each.
+// Kept: a crate is a library or an archive for C, so that a call stands in both, and C has a name for each.
 #[unsafe(no_mangle)]
 pub extern "C" fn trials_read_text(n: u64, text: &[u8], codes: &mut [u8]) -> u32
     ensures answered { result ≡ number (read_text n text.now codes.old).answer }

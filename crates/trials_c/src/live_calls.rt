@@ -55,7 +55,7 @@ pub extern "C" fn trials_live_withdraw(
 }
 
 // Does p act for q?
-// Kept: C has a name for each.
+// Kept: a crate is a library or an archive for C, so that a call stands in both, and C has a name for each.
 #[unsafe(no_mangle)]
 pub extern "C" fn trials_live_acts_for(
     head: &[u64; 4],

@@ -24,7 +24,7 @@ pub enum Side {
 }
 
 // A row of a set of coalitions: its four words, lowest first.
-// Kept: the definitions name the four words one by one, and `each_word` is what is done to each: an array would have an index for each name and be no plainer.
+// Kept: what makes a row says which of its words is which (`name_row`, `low_row`), and so do the definitions: an array would have an index in each name's stead.
 #[derive(Clone, Copy, Debug, PartialEq, Eq)]
 pub struct Row {
     pub a: u64,
@@ -253,7 +253,8 @@ pub fn hold(codes: &[u8], at: usize, g: u64) -> Held
     }
     // What is left over goes to `hold_quorum`, so that quorums cost the other codes no test. Its result is taken apart: handed on whole, that of every code
     // would go through memory.
-    // Kept: a single arm for the two projections would ask once more which side it is.
+    // Kept: a byte is taken apart here once: an enum of all codes would be made of it and taken apart at once, and a single arm for the two sides would ask again
+    // which it is.
     match code {
         0x21 => Held {
             next,
@@ -438,6 +439,7 @@ pub fn row_count(n: u64) -> u64
 }
 
 // The words of a term's rows, on each side: those of row g are the four from place 4 * g on.
+// Kept: two arrays of words, and not one of rows: a short form asks for single words of a side.
 #[derive(Drop)]
 pub struct Tables {
     pub see: [u64; 64],

@@ -1,12 +1,11 @@
--- What a code is on paper, by what it asks for: laws of the term that the bytes from a place on stand for. Assumes nothing.
-use Prim.Native.Nat.{ℕ, suc, ◌+◌, ◌-◌, ◌<◌}
-use native.Mathlib.Numerals.{add-one}
+-- What a code is on paper, by what it asks for: laws of the term that codes stand for. Assumes nothing.
+use Prim.Native.Nat.{ℕ, ◌+◌, ◌-◌}
 use mathlib.Core.Path.{◌≡◌, refl, sym, ap, ◌∙◌}
 use mathlib.Core.Bool.{Bool, true, false, cond}
 use mathlib.Core.List.{List, [], ◌∷◌, ◌++◌}
 use lib.Dec.{eqb, ltb}
-use lib.ListN.{length, drop, get_or}
-use lib.Seq.{drop-cons, drop-drop}
+use lib.ListN.{drop}
+use lib.Seq.{drop-drop}
 use Rattle.model.specs.Terms.{Term, name, Code, whole, one, two, many, none, code_of}
 use Rattle.model.specs.Texts.{joiner, join_rank, flat, rank, fewest}
 use Rattle.model.proofs.Reading.{Right, code_right}
@@ -14,7 +13,7 @@ use Rattle.words.specs.AnyBytes.{Taken, no_code, take_parts, taken, term_in}
 use Rattle.words.proofs.AnyBytes.{taken_step}
 use Rattle.terms.specs.declared.Joiner.{Joiner}
 use Rattle.terms.specs.Joiners.{kind}
-use Rattle.writing.specs.Writing.{mark_of, within}
+use Rattle.writing.specs.Writing.{mark_of, within, after_term}
 use Rattle.writing.specs.declared.Mark.{Mark}
 use Rattle.writing.specs.declared.Mark.TheVariants.{Whole, Sign, Between, Quorum}
 
@@ -60,30 +59,26 @@ code_shown c =
     named true m y q = (refl, refl)
     named false m y q = q
 
--- ---- what stands at a place
+-- ---- codes that begin with this one
 
-module _ (bytes : List ℕ) (at : ℕ) where
+module _ (code : ℕ) (codes : List ℕ) where
   -- one character
   pub record IsWhole (c : ℕ) : Type 0 where
-    pub text : flat (fewest (term_in (drop at bytes))) ≡ c ∷ []
-    pub low : rank (fewest (term_in (drop at bytes))) ≡ 0
-    pub size : (taken (drop at bytes)).size ≡ 1
+    pub text : flat (fewest (term_in (code ∷ codes))) ≡ c ∷ []
+    pub low : rank (fewest (term_in (code ∷ codes))) ≡ 0
+    pub left : after_term (code ∷ codes) ≡ codes
 
   -- a part and a sign
   pub record IsSigned (c : ℕ) : Type 0 where
-    pub text : flat (fewest (term_in (drop at bytes))) ≡ flat (within 0 (term_in (drop (at + 1) bytes))) ++ (c ∷ [])
-    pub low : rank (fewest (term_in (drop at bytes))) ≡ 0
-    pub size : (taken (drop at bytes)).size ≡ suc (taken (drop (at + 1) bytes)).size
+    pub text : flat (fewest (term_in (code ∷ codes))) ≡ flat (within 0 (term_in codes)) ++ (c ∷ [])
+    pub low : rank (fewest (term_in (code ∷ codes))) ≡ 0
+    pub left : after_term (code ∷ codes) ≡ after_term codes
 
-  -- two parts and a joiner; the second part begins at `next`
-  pub record IsJoined (c own under next : ℕ) : Type 0 where
-    pub text : flat (fewest (term_in (drop at bytes))) ≡ flat (within own (term_in (drop (at + 1) bytes))) ++ (c ∷ flat (within under (term_in (drop next bytes))))
-    pub own_rank : rank (fewest (term_in (drop at bytes))) ≡ own
-    pub size : (taken (drop at bytes)).size ≡ suc ((taken (drop (at + 1) bytes)).size + (taken (drop next bytes)).size)
-
-module _ (bytes : List ℕ) (at : ℕ) (h : at < length bytes) where
-  taken_at : taken (drop at bytes) ≡ take_parts taken (code_of 12 (get_or bytes at 0)) (drop (at + 1) bytes)
-  taken_at = ap (λ (l : List ℕ). taken l) (drop-cons bytes at 0 h ∙ ap (λ (k : ℕ). get_or bytes at 0 ∷ drop k bytes) (sym (add-one at))) ∙ taken_step (get_or bytes at 0) (drop (at + 1) bytes)
+  -- two parts and a joiner
+  pub record IsJoined (c own under : ℕ) : Type 0 where
+    pub text : flat (fewest (term_in (code ∷ codes))) ≡ flat (within own (term_in codes)) ++ (c ∷ flat (within under (term_in (after_term codes))))
+    pub own_rank : rank (fewest (term_in (code ∷ codes))) ≡ own
+    pub left : after_term (code ∷ codes) ≡ after_term (after_term codes)
 
   texts : {x y : Taken} → x ≡ y → flat (fewest x.term) ≡ flat (fewest y.term)
   texts e = ap (λ (x : Taken). flat (fewest x.term)) e
@@ -91,47 +86,46 @@ module _ (bytes : List ℕ) (at : ℕ) (h : at < length bytes) where
   ranks : {x y : Taken} → x ≡ y → rank (fewest x.term) ≡ rank (fewest y.term)
   ranks e = ap (λ (x : Taken). rank (fewest x.term)) e
 
-  sizes : {x y : Taken} → x ≡ y → x.size ≡ y.size
-  sizes e = ap (λ (x : Taken). x.size) e
+  lefts : {x y : Taken} → x ≡ y → drop x.size (code ∷ codes) ≡ drop y.size (code ∷ codes)
+  lefts e = ap (λ (x : Taken). drop x.size (code ∷ codes)) e
 
-  is_whole : (c : ℕ) (x : Code) → Shown (Whole c) x → taken (drop at bytes) ≡ take_parts taken x (drop (at + 1) bytes) → IsWhole bytes at c
+  is_whole : (c : ℕ) (x : Code) → Shown (Whole c) x → taken (code ∷ codes) ≡ take_parts taken x codes → IsWhole c
   unfolding flat fewest rank
-  is_whole c (whole t) s e = record { text = texts e ∙ s.0; low = ranks e ∙ s.1; size = sizes e }
+  is_whole c (whole t) s e = record { text = texts e ∙ s.0; low = ranks e ∙ s.1; left = lefts e }
   is_whole c (one f) s e = absurd s
   is_whole c (two f) s e = absurd s
   is_whole c many s e = absurd s
-  is_whole c none s e = record { text = texts e ∙ ap (λ (k : ℕ). k ∷ []) (sym s); low = ranks e; size = sizes e }
+  is_whole c none s e = record { text = texts e ∙ ap (λ (k : ℕ). k ∷ []) (sym s); low = ranks e; left = lefts e }
 
-  is_signed : (c : ℕ) (x : Code) → Shown (Sign c) x → taken (drop at bytes) ≡ take_parts taken x (drop (at + 1) bytes) → IsSigned bytes at c
+  is_signed : (c : ℕ) (x : Code) → Shown (Sign c) x → taken (code ∷ codes) ≡ take_parts taken x codes → IsSigned c
   is_signed c (whole t) s e = absurd s
-  is_signed c (one f) s e = let k = s (term_in (drop (at + 1) bytes)) in record { text = texts e ∙ k.0; low = ranks e ∙ k.1; size = sizes e }
+  is_signed c (one f) s e = let k = s (term_in codes) in record { text = texts e ∙ k.0; low = ranks e ∙ k.1; left = lefts e }
   is_signed c (two f) s e = absurd s
   is_signed c many s e = absurd s
   is_signed c none s e = absurd s
 
-  is_joined : (j : Joiner) (next : ℕ) (x : Code) → Shown (Between j) x → taken (drop at bytes) ≡ take_parts taken x (drop (at + 1) bytes)
-      → next ≡ at + 1 + (taken (drop (at + 1) bytes)).size → IsJoined bytes at (joiner (kind j)) (join_rank (kind j)) (join_rank (kind j) - 1) next
-  is_joined j next (whole t) s e f = absurd s
-  is_joined j next (one g) s e f = absurd s
-  is_joined j next (two g) s e f =
-      let d : drop (taken (drop (at + 1) bytes)).size (drop (at + 1) bytes) ≡ drop next bytes = drop-drop (taken (drop (at + 1) bytes)).size (at + 1) bytes ∙ ap (λ (k : ℕ). drop k bytes) (sym f) in
-      let k = s (term_in (drop (at + 1) bytes)) (term_in (drop next bytes)) in
-      record {
-        text = texts e ∙ ap (λ (l : List ℕ). flat (fewest (g (term_in (drop (at + 1) bytes)) (term_in l)))) d ∙ k.0;
-        own_rank = ranks e ∙ ap (λ (l : List ℕ). rank (fewest (g (term_in (drop (at + 1) bytes)) (term_in l)))) d ∙ k.1;
-        size = sizes e ∙ ap (λ (l : List ℕ). suc ((taken (drop (at + 1) bytes)).size + (taken l).size)) d;
-      }
-  is_joined j next many s e f = absurd s
-  is_joined j next none s e f = absurd s
+  is_joined : (j : Joiner) (x : Code) → Shown (Between j) x → taken (code ∷ codes) ≡ take_parts taken x codes → IsJoined (joiner (kind j)) (join_rank (kind j)) (join_rank (kind j) - 1)
+  is_joined j (whole t) s e = absurd s
+  is_joined j (one g) s e = absurd s
+  is_joined j (two g) s e =
+      let k = s (term_in codes) (term_in (after_term codes)) in
+      record { text = texts e ∙ k.0; own_rank = ranks e ∙ k.1; left = lefts e ∙ sym (drop-drop (taken (after_term codes)).size (taken codes).size codes) }
+  is_joined j many s e = absurd s
+  is_joined j none s e = absurd s
 
-  pub whole_at : (c : ℕ) → mark_of (get_or bytes at 0) ≡ Whole c → IsWhole bytes at c
-  whole_at c m = is_whole c (code_of 12 (get_or bytes at 0)) (rw m at (code_shown (get_or bytes at 0))) taken_at
+  pub whole_at : (c : ℕ) → mark_of code ≡ Whole c → IsWhole c
+  whole_at c m = is_whole c (code_of 12 code) (rw m at (code_shown code)) (taken_step code codes)
 
-  pub signed_at : (c : ℕ) → mark_of (get_or bytes at 0) ≡ Sign c → IsSigned bytes at c
-  signed_at c m = is_signed c (code_of 12 (get_or bytes at 0)) (rw m at (code_shown (get_or bytes at 0))) taken_at
+  pub signed_at : (c : ℕ) → mark_of code ≡ Sign c → IsSigned c
+  signed_at c m = is_signed c (code_of 12 code) (rw m at (code_shown code)) (taken_step code codes)
 
-  pub joined_at : (j : Joiner) (next : ℕ) → mark_of (get_or bytes at 0) ≡ Between j → next ≡ at + 1 + (taken (drop (at + 1) bytes)).size → IsJoined bytes at (joiner (kind j)) (join_rank (kind j)) (join_rank (kind j) - 1) next
-  joined_at j next m f = is_joined j next (code_of 12 (get_or bytes at 0)) (rw m at (code_shown (get_or bytes at 0))) taken_at f
+  pub joined_at : (j : Joiner) → mark_of code ≡ Between j → IsJoined (joiner (kind j)) (join_rank (kind j)) (join_rank (kind j) - 1)
+  joined_at j m = is_joined j (code_of 12 code) (rw m at (code_shown code)) (taken_step code codes)
+
+  -- a byte that is taken as no code stands for the strongest party
+  pub none_at : taken (code ∷ codes) ≡ no_code → IsWhole 0x2A
+  unfolding flat fewest rank
+  none_at e = record { text = texts e; low = ranks e; left = lefts e }
 
 -- only a quorum's code has its mark
 pub quorum_code : (c : ℕ) → mark_of c ≡ Quorum → c ≡ 0x32
@@ -143,12 +137,3 @@ quorum_code c m = by (code_of 12 c) (code_right 12 c) (rw m at (code_shown c))
     by (two f) h s = absurd s
     by many h s = h
     by none h s = absurd s
-
--- a byte that is taken as no code stands for the strongest party
-pub none_at : (bytes : List ℕ) (at : ℕ) → taken (drop at bytes) ≡ no_code → IsWhole bytes at 0x2A
-unfolding flat fewest rank
-none_at bytes at e = record {
-  text = ap (λ (x : Taken). flat (fewest x.term)) e;
-  low = ap (λ (x : Taken). rank (fewest x.term)) e;
-  size = ap (λ (x : Taken). x.size) e;
-}

@@ -1,19 +1,19 @@
--- What the writer puts at a place: the room for it, and a law for each return. Assumes nothing.
+-- What the writer puts for a term, by its first code: the room for it, and a law for each return. Assumes nothing.
 use Prim.Native.Nat.{ℕ, ◌+◌, ◌<◌, ◌≤◌}
 use native.Mathlib.Omega.{arith}
 use mathlib.Core.Path.{◌≡◌, refl, sym, ap, ◌∙◌}
 use mathlib.Core.Bool.{Bool, true, false, cond}
 use mathlib.Core.List.{List, [], ◌∷◌, ◌++◌, append_assoc, append-nil}
 use lib.Dec.{leb}
-use lib.ListN.{length, drop, set, length-append, length-set, drop_of_length-le}
-use Rattle.model.specs.Terms.{Term, top}
+use lib.ListN.{length, drop, length-drop}
+use Rattle.std.proofs.lemmas.List.{nil_from_length}
 use Rattle.model.specs.Texts.{Tree, bracket, flat, rank, at_most, fewest}
 use Rattle.model.proofs.Bracketed.{at_most_low}
 use Rattle.words.specs.AnyBytes.{Taken, taken, term_in}
 use Rattle.words.proofs.AnyBytes.{taken_none}
-use Rattle.writing.specs.Writing.{bracketed, within, Put, Wrote}
+use Rattle.writing.specs.Writing.{bracketed, within, State, state, wrote, after_term}
 use Rattle.writing.proofs.Marks.{IsWhole, IsSigned, IsJoined}
-use Rattle.writing.proofs.Putting.{put_one, put-more, put-length}
+use Rattle.writing.proofs.Putting.{wrote_both, room_after, front}
 
 -- a text between its brackets, where it needs them
 at_most_flat : (l : ℕ) (w : Tree) → flat (at_most l w) ≡ bracketed 0x28 (rank w) l ++ (flat w ++ bracketed 0x29 (rank w) l)
@@ -25,141 +25,142 @@ at_most_flat l w = by (leb (rank w) l)
     by false = refl
 
 -- what is of rank 0 needs none
-atom_flat : (l : ℕ) (w : Tree) → rank w ≡ 0 → flat (at_most l w) ≡ flat w
+pub atom_flat : (l : ℕ) (w : Tree) → rank w ≡ 0 → flat (at_most l w) ≡ flat w
 atom_flat l w h = ap flat (at_most_low l w (omega arith))
 
-module _ (bytes : List ℕ) (at l : ℕ) (before : List ℕ) (to : ℕ) (room : to + length (flat (within l (term_in (drop at bytes)))) ≤ length before) where
+none_text : (l : ℕ) → flat (within l (term_in [])) ≡ 0x2A ∷ []
+unfolding flat fewest rank
+none_text l = atom_flat l (fewest (term_in [])) (ap (λ (x : Taken). rank (fewest x.term)) taken_none) ∙ ap (λ (x : Taken). flat (fewest x.term)) taken_none
+
+none_left : after_term [] ≡ []
+none_left = ap (λ (x : Taken). drop x.size []) taken_none
+
+-- no codes are left: the strongest party
+module _ (before : State) (l : ℕ) (empty : length before.codes ≡ 0) (room : length before.written + length (flat (within l (term_in before.codes))) ≤ 192) where
+  none : before.codes ≡ []
+  none = nil_from_length before.codes empty
+
+  pub none_room : length before.written < 192
+  none_room = omega (arith, rw (none_text l) at (rw none at room))
+
+  pub none_wrote : (after : State) → after ≡ wrote before before.codes (0x2A ∷ []) → after ≡ wrote before (after_term before.codes) (flat (within l (term_in before.codes)))
+  none_wrote after p = p ∙ rw (none, none_text l, none_left) refl
+
+-- a code, and what follows it; the code is passed
+module _ (code : ℕ) (codes written : List ℕ) (before : State) (begun : before ≡ state (code ∷ codes) written) (l : ℕ) (room : length before.written + length (flat (within l (term_in before.codes))) ≤ 192) where
+  abbrev passed : State
+  passed = state codes written
+
+  abbrev text : List ℕ
+  text = flat (within l (term_in (code ∷ codes)))
+
+  abbrev Done : State → Type 0
+  Done after = after ≡ wrote before (after_term before.codes) (flat (within l (term_in before.codes)))
+
+  fits : (f : List ℕ) → text ≡ f → length written + length f ≤ 192
+  fits f e = rw e at (rw begun at room)
+
+  done : (after : State) (cs f : List ℕ) → after_term (code ∷ codes) ≡ cs → text ≡ f → after ≡ wrote passed cs f → Done after
+  done after cs f d e p = p ∙ rw (begun, d, e) refl
+
   -- one character
-  module _ (c : ℕ) (text : flat (within l (term_in (drop at bytes))) ≡ c ∷ []) where
-    sole_room : to < length before
-    sole_room = omega (arith, room, ap length text)
+  module _ (c : ℕ) (w : IsWhole code codes c) where
+    pub whole_text_lem : text ≡ c ∷ []
+    whole_text_lem = atom_flat l (fewest (term_in (code ∷ codes))) w.low ∙ w.text
 
-    sole_put : Put (flat (within l (term_in (drop at bytes)))) before (set before to c) to (to + 1)
-    sole_put = rw text (put_one before to c sole_room)
+    pub whole_room : length written < 192
+    whole_room = omega (arith, fits (c ∷ []) whole_text_lem)
 
-  -- no bytes are left: the strongest party
-  module _ (h : length bytes ≤ at) where
-    none_taken : taken (drop at bytes) ≡ taken []
-    none_taken = ap (λ (cs : List ℕ). taken cs) (drop_of_length-le bytes h)
-
-    none_text : flat (within l (term_in (drop at bytes))) ≡ 0x2A ∷ []
-    unfolding flat fewest rank
-    none_text =
-        let e : term_in (drop at bytes) ≡ top = ap (λ (x : Taken). x.term) (none_taken ∙ taken_none) in
-        atom_flat l (fewest (term_in (drop at bytes))) (ap (λ (u : Term). rank (fewest u)) e) ∙ ap (λ (u : Term). flat (fewest u)) e
-
-    pub none_room : to < length before
-    none_room = sole_room 0x2A none_text
-
-    pub none_wrote : Wrote bytes at l before (set before to 0x2A) to at (to + 1)
-    none_wrote = record { past = sym (ap (λ (x : Taken). at + x.size) (none_taken ∙ taken_none) ∙ omega arith); written = sole_put 0x2A none_text }
-
-  module _ (c : ℕ) (w : IsWhole bytes at c) where
-    whole_text_lem : flat (within l (term_in (drop at bytes))) ≡ c ∷ []
-    whole_text_lem = atom_flat l (fewest (term_in (drop at bytes))) w.low ∙ w.text
-
-    pub whole_room : to < length before
-    whole_room = sole_room c whole_text_lem
-
-    pub whole_wrote : Wrote bytes at l before (set before to c) to (at + 1) (to + 1)
-    whole_wrote = record { past = ap (λ (k : ℕ). at + k) (sym w.size); written = sole_put c whole_text_lem }
+    pub whole_wrote : (after : State) → after ≡ wrote passed codes (c ∷ []) → Done after
+    whole_wrote after p = done after codes (c ∷ []) w.left whole_text_lem p
 
   -- a part and a sign
-  module _ (c : ℕ) (s : IsSigned bytes at c) where
+  module _ (c : ℕ) (s : IsSigned code codes c) where
     abbrev part : List ℕ
-    part = flat (within 0 (term_in (drop (at + 1) bytes)))
+    part = flat (within 0 (term_in codes))
 
-    signed_text : flat (within l (term_in (drop at bytes))) ≡ part ++ (c ∷ [])
-    signed_text = atom_flat l (fewest (term_in (drop at bytes))) s.low ∙ s.text
+    signed_text : text ≡ part ++ (c ∷ [])
+    signed_text = atom_flat l (fewest (term_in (code ∷ codes))) s.low ∙ s.text
 
-    signed_long : to + (length part + 1) ≤ length before
-    signed_long = omega (arith, room, ap length signed_text ∙ length-append part (c ∷ []))
+    pub part_room : length written + length part ≤ 192
+    part_room = front (length written) part (c ∷ []) 192 (fits (part ++ (c ∷ [])) signed_text)
 
-    pub part_room : to + length part ≤ length before
-    part_room = omega (arith, signed_long)
+    module _ (mid : State) (p : mid ≡ wrote passed (after_term codes) part) where
+      pub sign_room : length mid.written < 192
+      sign_room = omega (arith, room_after passed mid (after_term codes) part p (λ cs. cs) (λ cs. c ∷ []) 192 (fits (part ++ (c ∷ [])) signed_text))
 
-    module _ (mid : List ℕ) (next end : ℕ) (w : Wrote bytes (at + 1) 0 before mid to next end) where
-      pub sign_inside : end < length before
-      sign_inside = omega (arith, signed_long, w.written.ends)
-
-      pub sign_room : end < length mid
-      sign_room = omega (arith, sign_inside, put-length part before mid to end w.written part_room)
-
-      pub signed_wrote : Wrote bytes at l before (set mid end c) to next (end + 1)
-      signed_wrote = record {
-        past = omega (arith, w.past, s.size);
-        written = rw signed_text (put-more part (c ∷ []) before mid (set mid end c) to end (end + 1) w.written (put_one mid end c sign_room) (omega (arith, signed_long)));
-      }
+      pub signed_wrote : (after : State) → after ≡ wrote mid mid.codes (c ∷ []) → Done after
+      signed_wrote after q = done after (after_term codes) (part ++ (c ∷ [])) s.left signed_text (wrote_both passed mid (after_term codes) part p (λ cs. cs) (λ cs. c ∷ []) after q)
 
   -- two parts and a joiner, in brackets where they need them
-  module _ (c own under next : ℕ) (j : IsJoined bytes at c own under next) where
+  module _ (c own under : ℕ) (j : IsJoined code codes c own under) where
     abbrev opening : List ℕ
     opening = bracketed 0x28 own l
 
     abbrev closing : List ℕ
     closing = bracketed 0x29 own l
 
+    abbrev part_at : ℕ → List ℕ → List ℕ
+    part_at r cs = flat (within r (term_in cs))
+
     abbrev left : List ℕ
-    left = flat (within own (term_in (drop (at + 1) bytes)))
+    left = part_at own codes
 
     abbrev right : List ℕ
-    right = flat (within under (term_in (drop next bytes)))
+    right = part_at under (after_term codes)
 
-    joined_text : flat (within l (term_in (drop at bytes))) ≡ (((opening ++ left) ++ (c ∷ [])) ++ right) ++ closing
+    abbrev last : List ℕ
+    last = after_term (after_term codes)
+
+    joined_text : text ≡ (((opening ++ left) ++ (c ∷ [])) ++ right) ++ closing
     joined_text =
-        at_most_flat l (fewest (term_in (drop at bytes)))
+        at_most_flat l (fewest (term_in (code ∷ codes)))
         ∙ rw (j.own_rank, j.text) (rw (append_assoc (opening ++ left) (c ∷ []) right, append_assoc opening left (c ∷ right), append_assoc opening (left ++ (c ∷ right)) closing))
 
-    joined_long : to + (length opening + (length left + (1 + (length right + length closing)))) ≤ length before
-    joined_long =
-        omega (arith, room, ap length joined_text, length-append (((opening ++ left) ++ (c ∷ [])) ++ right) closing, length-append ((opening ++ left) ++ (c ∷ [])) right, length-append (opening ++ left) (c ∷ []), length-append opening left)
+    all_fits : length written + length ((((opening ++ left) ++ (c ∷ [])) ++ right) ++ closing) ≤ 192
+    all_fits = fits _ joined_text
 
-    pub open_room : to + length opening ≤ length before
-    open_room = omega (arith, joined_long)
+    right_fits : length written + length (((opening ++ left) ++ (c ∷ [])) ++ right) ≤ 192
+    right_fits = front (length written) (((opening ++ left) ++ (c ∷ [])) ++ right) closing 192 all_fits
 
-    module _ (m : List ℕ) (e : ℕ) (o : Put opening before m to e) where
-      opened_long : length m ≡ length before
-      opened_long = put-length opening before m to e o open_room
+    joiner_fits : length written + length ((opening ++ left) ++ (c ∷ [])) ≤ 192
+    joiner_fits = front (length written) ((opening ++ left) ++ (c ∷ [])) right 192 right_fits
 
-      pub left_room : e + length left ≤ length m
-      left_room = omega (arith, joined_long, opened_long, o.ends)
+    left_fits : length written + length (opening ++ left) ≤ 192
+    left_fits = front (length written) (opening ++ left) (c ∷ []) 192 joiner_fits
 
-      module _ (n : List ℕ) (f : ℕ) (w : Wrote bytes (at + 1) own m n e next f) where
-        left-put : Put (opening ++ left) before n to f
-        left-put = put-more opening left before m n to e f o w.written (omega (arith, joined_long))
+    pub open_room : length written + length opening ≤ 192
+    open_room = front (length written) opening left 192 left_fits
 
-        left_long : length n ≡ length before
-        left_long = put-length left m n e f w.written left_room ∙ opened_long
+    module _ (s : State) (p : s ≡ wrote passed codes opening) where
+      pub left_room : length s.written + length (part_at own s.codes) ≤ 192
+      left_room = room_after passed s codes opening p after_term (part_at own) 192 left_fits
 
-        pub joiner_inside : f < length before
-        joiner_inside = omega (arith, joined_long, o.ends, w.written.ends)
+      module _ (t : State) (q : t ≡ wrote s (after_term s.codes) (part_at own s.codes)) where
+        left-wrote : t ≡ wrote passed (after_term codes) (opening ++ left)
+        left-wrote = wrote_both passed s codes opening p after_term (part_at own) t q
 
-        pub joiner_room : f < length n
-        joiner_room = omega (arith, joiner_inside, left_long)
+        pub joiner_room : length t.written < 192
+        joiner_room = omega (arith, room_after passed t (after_term codes) (opening ++ left) left-wrote (λ cs. cs) (λ cs. c ∷ []) 192 joiner_fits)
 
-        joiner-put : Put ((opening ++ left) ++ (c ∷ [])) before (set n f c) to (f + 1)
-        joiner-put = put-more (opening ++ left) (c ∷ []) before n (set n f c) to f (f + 1) left-put (put_one n f c joiner_room) (omega (arith, joined_long, length-append opening left))
+        module _ (u : State) (x : u ≡ wrote t t.codes (c ∷ [])) where
+          joiner-wrote : u ≡ wrote passed (after_term codes) ((opening ++ left) ++ (c ∷ []))
+          joiner-wrote = wrote_both passed t (after_term codes) (opening ++ left) left-wrote (λ cs. cs) (λ cs. c ∷ []) u x
 
-        joiner_long : length (set n f c) ≡ length before
-        joiner_long = length-set n f c ∙ left_long
+          -- fewer codes are left
+          pub right_less : length u.codes ≤ length codes
+          right_less = rw joiner-wrote (omega (arith, length-drop (taken codes).size codes))
 
-        pub right_room : f + 1 + length right ≤ length (set n f c)
-        right_room = omega (arith, joined_long, joiner_long, o.ends, w.written.ends)
+          pub right_room : length u.written + length (part_at under u.codes) ≤ 192
+          right_room = room_after passed u (after_term codes) ((opening ++ left) ++ (c ∷ [])) joiner-wrote after_term (part_at under) 192 right_fits
 
-        module _ (p : List ℕ) (last g : ℕ) (v : Wrote bytes next under (set n f c) p (f + 1) last g) where
-          right-put : Put (((opening ++ left) ++ (c ∷ [])) ++ right) before p to g
-          right-put = put-more ((opening ++ left) ++ (c ∷ [])) right before (set n f c) p to (f + 1) g joiner-put v.written (omega (arith, joined_long, length-append (opening ++ left) (c ∷ []), length-append opening left))
+          module _ (v : State) (y : v ≡ wrote u (after_term u.codes) (part_at under u.codes)) where
+            right-wrote : v ≡ wrote passed last (((opening ++ left) ++ (c ∷ [])) ++ right)
+            right-wrote = wrote_both passed u (after_term codes) ((opening ++ left) ++ (c ∷ [])) joiner-wrote after_term (part_at under) v y
 
-          right_long : length p ≡ length before
-          right_long = put-length right (set n f c) p (f + 1) g v.written right_room ∙ joiner_long
+            pub close_room : length v.written + length closing ≤ 192
+            close_room = room_after passed v last (((opening ++ left) ++ (c ∷ [])) ++ right) right-wrote (λ cs. cs) (λ cs. closing) 192 all_fits
 
-          pub close_room : g + length closing ≤ length p
-          close_room = omega (arith, joined_long, right_long, o.ends, w.written.ends, v.written.ends)
-
-          pub joined_wrote : (a : List ℕ) (end : ℕ) → Put closing p a g end → Wrote bytes at l before a to last end
-          joined_wrote a end z = record {
-            past = omega (arith, w.past, v.past, j.size);
-            written = rw joined_text
-                (put-more (((opening ++ left) ++ (c ∷ [])) ++ right) closing before p a to g end right-put z
-                (omega (arith, joined_long, length-append ((opening ++ left) ++ (c ∷ [])) right, length-append (opening ++ left) (c ∷ []), length-append opening left)));
-          }
+            pub joined_wrote : (after : State) → after ≡ wrote v v.codes closing → Done after
+            joined_wrote after z =
+                done after last _ j.left joined_text (wrote_both passed v last (((opening ++ left) ++ (c ∷ [])) ++ right) right-wrote (λ cs. cs) (λ cs. closing) after z)

@@ -1,169 +1,221 @@
--- What the writer puts for a quorum (document 02, K4): the room for it, and a law for each return of `write_places` and `write_quorum`. Assumes nothing.
+-- What the writer puts for a quorum (document 02, K4): the room for it, and a law for each return of `places` and `quorum`. Assumes nothing.
 use Prim.Native.Nat.{ℕ, suc, ◌+◌, ◌-◌, ◌<◌, ◌≤◌}
 use native.Mathlib.Omega.{arith}
 use mathlib.Core.Path.{◌≡◌, refl, sym, ap, ◌∙◌}
+use mathlib.Core.Bool.{false, true}
 use mathlib.Core.List.{List, [], ◌∷◌, ◌++◌, append_assoc}
-use lib.ListN.{length, drop, get_or, set, length-append, length-set}
-use Rattle.model.specs.Terms.{Term, quorum, quorate, many, code_of}
+use lib.ListN.{length, take, drop, get_or, length-drop}
+use lib.Seq.{drop-drop, take-length}
+use Rattle.model.specs.Terms.{cons, quorum, quorate, code_of}
 use Rattle.model.specs.Texts.{places, decimal, flat, flat_all, rank, fewest, fewest_all}
 use Rattle.model.proofs.Truth.{cond_case}
 use Rattle.model.proofs.Texts.{rank_most}
 use Rattle.model.proofs.Bracketed.{at_most_low, places_fewest}
-use Rattle.words.specs.AnyBytes.{Taken, TakenAll, taken_all, take_quorum, taken, term_in}
-use Rattle.words.proofs.AnyBytes.{all_none, all_at, all_count, taken_at}
-use Rattle.writing.specs.Writing.{within, places_in, Put, Wrote, WrotePlaces}
-use Rattle.writing.proofs.Putting.{put_none, put_one, put-more, put-length}
+use Rattle.words.specs.AnyBytes.{Taken, TakenAll, no_code, taken_all, take_quorum, taken, term_in}
+use Rattle.words.proofs.AnyBytes.{taken_step, all_none, all_step, all_count}
+use Rattle.writing.specs.Writing.{within, places_in, State, state, wrote, after_term, after_terms}
+use Rattle.writing.proofs.Marks.{IsWhole, none_at}
+use Rattle.writing.proofs.Putting.{wrote_none, wrote_both, room_after, front}
+use Rattle.writing.proofs.Parts.{atom_flat}
 
 -- ---- places
 
 -- no place is left
-pub places_none : (bytes : List ℕ) (at m c : ℕ) (before : List ℕ) (to : ℕ) → m ≡ 0 → WrotePlaces bytes at m c before before to at to
+no_places_text : (m c : ℕ) (codes : List ℕ) → m ≡ 0 → flat_all c (places_in m codes) ≡ []
 unfolding flat fewest
-places_none bytes at m c before to z =
-    let e = all_none (drop at bytes) in
-    rw z (record { past = omega (arith, ap (λ (x : TakenAll). x.size) e); written = rw e (put_none before to) })
+no_places_text m c codes z = rw (z, all_none codes) refl
 
-module _ (bytes : List ℕ) (at m c : ℕ) (before : List ℕ) (to : ℕ) (more : 0 < m) (room : to + length (flat_all c (places_in m (drop at bytes))) ≤ length before) where
-  abbrev part : List ℕ
-  part = flat (within 2 (term_in (drop at bytes)))
+no_places_left : (m : ℕ) (codes : List ℕ) → m ≡ 0 → after_terms m codes ≡ codes
+no_places_left m codes z = rw (z, all_none codes) refl
 
-  module _ (next : ℕ) (past : next ≡ at + (taken (drop at bytes)).size) where
-    abbrev rest : List ℕ
-    rest = flat_all 0x2C (places_in (m - 1) (drop next bytes))
+-- one place, and those after it
+module _ (m : ℕ) (codes : List ℕ) (more : 0 < m) where
+  first_taken : taken_all taken m codes ≡ record {
+    terms = cons (term_in codes) (taken_all taken (m - 1) (after_term codes)).terms;
+    size = (taken codes).size + (taken_all taken (m - 1) (after_term codes)).size;
+  }
+  first_taken =
+      let s : m ≡ suc (m - 1) = omega arith in
+      ap (λ (k : ℕ). taken_all taken k codes) s ∙ all_step (m - 1) codes
 
-    first_taken : taken_all taken m (drop at bytes) ≡ record {
-      terms = Rattle.model.specs.Terms.cons (term_in (drop at bytes)) (taken_all taken (m - 1) (drop next bytes)).terms;
-      size = (taken (drop at bytes)).size + (taken_all taken (m - 1) (drop next bytes)).size;
-    }
-    first_taken =
-        let s : m ≡ suc (m - 1) = omega arith in
-        ap (λ (k : ℕ). taken_all taken k (drop at bytes)) s ∙ all_at bytes at (m - 1) next past
+  places_text : (c : ℕ) → flat_all c (places_in m codes) ≡ ((c ∷ []) ++ flat (within 2 (term_in codes))) ++ flat_all 0x2C (places_in (m - 1) (after_term codes))
+  unfolding flat fewest
+  places_text c =
+      let t = fewest (term_in codes) in
+      let w : flat (within 2 (term_in codes)) ≡ flat t = ap flat (at_most_low 2 t (rank_most t)) in
+      ap (λ (x : TakenAll). flat_all c (fewest_all x.terms)) first_taken ∙ ap (λ (l : List ℕ). c ∷ (l ++ flat_all 0x2C (places_in (m - 1) (after_term codes)))) (sym w)
 
-    places_text : flat_all c (places_in m (drop at bytes)) ≡ ((c ∷ []) ++ part) ++ rest
-    unfolding flat fewest
-    places_text =
-        let w : part ≡ flat (fewest (term_in (drop at bytes))) = ap flat (at_most_low 2 (fewest (term_in (drop at bytes))) (rank_most (fewest (term_in (drop at bytes))))) in
-        ap (λ (x : TakenAll). flat_all c (fewest_all x.terms)) first_taken ∙ ap (λ (l : List ℕ). c ∷ (l ++ rest)) (sym w)
+  places_left : after_terms m codes ≡ after_terms (m - 1) (after_term codes)
+  places_left =
+      ap (λ (x : TakenAll). drop x.size codes) first_taken ∙ sym (drop-drop (taken_all taken (m - 1) (after_term codes)).size (taken codes).size codes)
 
-    places_long : to + (1 + (length part + length rest)) ≤ length before
-    places_long = omega (arith, room, ap length places_text, length-append part rest)
+pub places_none : (m c : ℕ) (before : State) → m ≡ 0 → before ≡ wrote before (after_terms m before.codes) (flat_all c (places_in m before.codes))
+places_none m c before z = wrote_none before ∙ rw (no_places_text m c before.codes z, no_places_left m before.codes z) refl
 
-  pub first_room : to < length before
-  first_room = omega (arith, places_long (at + (taken (drop at bytes)).size) refl)
+module _ (m c : ℕ) (before : State) (more : 0 < m) (room : length before.written + length (flat_all c (places_in m before.codes)) ≤ 192) where
+  abbrev part_at : List ℕ → List ℕ
+  part_at cs = flat (within 2 (term_in cs))
 
-  pub first_part_room : to + 1 + length part ≤ length (set before to c)
-  first_part_room = omega (arith, places_long (at + (taken (drop at bytes)).size) refl, length-set before to c)
+  abbrev rest_at : List ℕ → List ℕ
+  rest_at cs = flat_all 0x2C (places_in (m - 1) cs)
 
-  module _ (mid : List ℕ) (next e : ℕ) (w : Wrote bytes at 2 (set before to c) mid (to + 1) next e) where
-    mid_long : length mid ≡ length before
-    mid_long = put-length part (set before to c) mid (to + 1) e w.written first_part_room ∙ length-set before to c
+  abbrev one : List ℕ
+  one = (c ∷ []) ++ part_at before.codes
 
-    pub rest_room : e + length (rest next w.past) ≤ length mid
-    rest_room = omega (arith, places_long next w.past, mid_long, w.written.ends)
+  rest_fits : length before.written + length (one ++ rest_at (after_term before.codes)) ≤ 192
+  rest_fits = rw (places_text m before.codes more c) at room
 
-    pub places-more : (after : List ℕ) (last end : ℕ) → WrotePlaces bytes next (m - 1) 0x2C mid after e last end → WrotePlaces bytes at m c before after to last end
-    places-more after last end p =
-        let long = places_long next w.past in
-        let f : Put ((c ∷ []) ++ part) before mid to e = put-more (c ∷ []) part before (set before to c) mid to (to + 1) e (put_one before to c first_room) w.written (omega (arith, long)) in
-        record {
-          past = omega (arith, p.past, w.past, ap (λ (x : TakenAll). x.size) (first_taken next w.past));
-          written = rw (places_text next w.past) (put-more ((c ∷ []) ++ part) (rest next w.past) before mid after to e end f p.written (omega (arith, long)));
-        }
+  part_fits : length before.written + length one ≤ 192
+  part_fits = front (length before.written) one (rest_at (after_term before.codes)) 192 rest_fits
+
+  pub first_room : length before.written < 192
+  first_room = omega (arith, part_fits)
+
+  module _ (s : State) (p : s ≡ wrote before before.codes (c ∷ [])) where
+    pub first_part_room : length s.written + length (part_at s.codes) ≤ 192
+    first_part_room = room_after before s before.codes (c ∷ []) p after_term part_at 192 part_fits
+
+    module _ (t : State) (q : t ≡ wrote s (after_term s.codes) (part_at s.codes)) where
+      first-wrote : t ≡ wrote before (after_term before.codes) one
+      first-wrote = wrote_both before s before.codes (c ∷ []) p after_term part_at t q
+
+      -- no more codes are left
+      pub rest_less : length t.codes ≤ length before.codes
+      rest_less = rw first-wrote (omega (arith, length-drop (taken before.codes).size before.codes))
+
+      pub rest_room : length t.written + length (rest_at t.codes) ≤ 192
+      rest_room = room_after before t (after_term before.codes) one first-wrote (after_terms (m - 1)) rest_at 192 rest_fits
+
+      pub places-more : (after : State) → after ≡ wrote t (after_terms (m - 1) t.codes) (rest_at t.codes) → after ≡ wrote before (after_terms m before.codes) (flat_all c (places_in m before.codes))
+      places-more after x =
+          wrote_both before t (after_term before.codes) one first-wrote (after_terms (m - 1)) rest_at after x ∙ rw (places_text m before.codes more c, places_left m before.codes more) refl
 
 -- ---- a quorum
 
--- what stands at a quorum's code has no brackets around it
+quorum_taken : (codes : List ℕ) → taken (0x32 ∷ codes) ≡ take_quorum taken codes
+unfolding code_of
+quorum_taken codes = taken_step 0x32 codes
+
+-- it has no brackets around it
 quorum_rank : (cs : List ℕ) → rank (fewest (take_quorum taken cs).term) ≡ 0
 unfolding rank fewest
 quorum_rank [] = refl
 quorum_rank (k ∷ []) = refl
 quorum_rank (k ∷ m ∷ cs) = cond_case (λ (x : Taken). rank (fewest x.term) ≡ 0) (quorate k m) _ _ (λ _. refl) (λ _. refl)
 
-module _ (bytes : List ℕ) (at : ℕ) (h : at < length bytes) (code : get_or bytes at 0 ≡ 0x32) where
-  low_there : rank (fewest (term_in (drop at bytes))) ≡ 0
-  unfolding code_of
-  low_there =
-      ap (λ (x : Taken). rank (fewest x.term)) (taken_at bytes at h many (ap (code_of 12) code)) ∙ quorum_rank (drop (at + 1) bytes)
+pub quorum_plain : (codes : List ℕ) (l : ℕ) → flat (within l (term_in (0x32 ∷ codes))) ≡ flat (fewest (term_in (0x32 ∷ codes)))
+quorum_plain codes l = atom_flat l (fewest (term_in (0x32 ∷ codes))) (ap (λ (x : Taken). rank (fewest x.term)) (quorum_taken codes) ∙ quorum_rank codes)
 
-  any_rank : (l : ℕ) → flat (within l (term_in (drop at bytes))) ≡ flat (within 0 (term_in (drop at bytes)))
-  any_rank l =
-      let w = fewest (term_in (drop at bytes)) in
-      ap flat (at_most_low l w (omega (arith, low_there)) ∙ sym (at_most_low 0 w (omega (arith, low_there))))
+-- two bytes and the rest
+pub first_two : (l : List ℕ) → 2 ≤ length l → l ≡ get_or l 0 0 ∷ get_or l 1 0 ∷ take (length l - 2) (drop 2 l)
+first_two [] h = absurd (omega arith)
+first_two (k ∷ []) h = absurd (omega arith)
+first_two (k ∷ m ∷ l) h =
+    let e : suc (suc (length l)) - 2 ≡ length l = omega arith in
+    rw (e, take-length l) refl
 
-  pub quorum_room : (l to size : ℕ) → to + length (flat (within l (term_in (drop at bytes)))) ≤ size → to + length (flat (within 0 (term_in (drop at bytes)))) ≤ size
-  quorum_room l to size r = rw (any_rank l) at r
+-- without a k and an m in range it is the strongest party
+pub no_numbers : (codes : List ℕ) → length codes < 2 → IsWhole 0x32 codes 0x2A
+no_numbers codes h = none_at 0x32 codes (quorum_taken codes ∙ short codes h)
+  where
+    short : (cs : List ℕ) → length cs < 2 → take_quorum taken cs ≡ no_code
+    short [] i = refl
+    short (k ∷ []) i = refl
+    short (k ∷ m ∷ cs) i = absurd (omega arith)
 
-  pub quorum_ranked : (l : ℕ) (before after : List ℕ) (to next end : ℕ) → Wrote bytes at 0 before after to next end → Wrote bytes at l before after to next end
-  quorum_ranked l before after to next end w = record { past = w.past; written = rw (any_rank l) w.written }
+module _ (k m : ℕ) (codes : List ℕ) where
+  pub numbers_out : quorate k m ≡ false → IsWhole 0x32 (k ∷ m ∷ codes) 0x2A
+  numbers_out h = none_at 0x32 (k ∷ m ∷ codes) (quorum_taken (k ∷ m ∷ codes) ∙ rw h refl)
 
--- k, a colon, m, the places, and a closing bracket
-module _ (bytes : List ℕ) (at : ℕ) (before : List ℕ) (to : ℕ) (room : to + length (flat (within 0 (term_in (drop at bytes)))) ≤ length before) (k m : ℕ)
-    (is : taken (drop at bytes) ≡ record { term = quorum k (taken_all taken m (drop (at + 3) bytes)).terms; size = 3 + (taken_all taken m (drop (at + 3) bytes)).size }) where
-  abbrev all : List ℕ
-  all = flat_all 0x28 (places_in m (drop (at + 3) bytes))
+  -- k, a colon, m, the places, and a closing bracket
+  module _ (fits : quorate k m ≡ true) where
+    quorum_is : taken (0x32 ∷ k ∷ m ∷ codes) ≡ record { term = quorum k (taken_all taken m codes).terms; size = 3 + (taken_all taken m codes).size }
+    quorum_is = quorum_taken (k ∷ m ∷ codes) ∙ rw fits refl
 
-  quorum_text : flat (within 0 (term_in (drop at bytes))) ≡ (((decimal k ++ (0x3A ∷ [])) ++ decimal m) ++ all) ++ (0x29 ∷ [])
-  unfolding flat fewest rank
-  quorum_text =
-      let ts = (taken_all taken m (drop (at + 3) bytes)).terms in
-      let e : places (fewest_all ts) ≡ m = places_fewest ts ∙ all_count m (drop (at + 3) bytes) in
-      ap (λ (x : Taken). flat (within 0 x.term)) is
-      ∙ ap (λ (j : ℕ). decimal k ++ (0x3A ∷ (decimal j ++ (all ++ (0x29 ∷ []))))) e
-      ∙ sym (append_assoc ((decimal k ++ (0x3A ∷ [])) ++ decimal m) all (0x29 ∷ []) ∙ append_assoc (decimal k ++ (0x3A ∷ [])) (decimal m) (all ++ (0x29 ∷ [])) ∙ append_assoc (decimal k) (0x3A ∷ []) (decimal m ++ (all ++ (0x29 ∷ []))))
+    quorum_text : flat (fewest (term_in (0x32 ∷ k ∷ m ∷ codes))) ≡ (((decimal k ++ (0x3A ∷ [])) ++ decimal m) ++ flat_all 0x28 (places_in m codes)) ++ (0x29 ∷ [])
+    unfolding flat fewest
+    quorum_text =
+        let all = flat_all 0x28 (places_in m codes) in
+        let e : places (places_in m codes) ≡ m = places_fewest (taken_all taken m codes).terms ∙ all_count m codes in
+        ap (λ (x : Taken). flat (fewest x.term)) quorum_is
+        ∙ ap (λ (j : ℕ). decimal k ++ (0x3A ∷ (decimal j ++ (all ++ (0x29 ∷ []))))) e
+        ∙ sym (append_assoc ((decimal k ++ (0x3A ∷ [])) ++ decimal m) all (0x29 ∷ []) ∙ append_assoc (decimal k ++ (0x3A ∷ [])) (decimal m) (all ++ (0x29 ∷ [])) ∙ append_assoc (decimal k) (0x3A ∷ []) (decimal m ++ (all ++ (0x29 ∷ []))))
 
-  quorum_long : to + (length (decimal k) + (1 + (length (decimal m) + (length all + 1)))) ≤ length before
-  quorum_long =
-      omega (arith, room, ap length quorum_text, length-append (((decimal k ++ (0x3A ∷ [])) ++ decimal m) ++ all) (0x29 ∷ []), length-append ((decimal k ++ (0x3A ∷ [])) ++ decimal m) all, length-append (decimal k ++ (0x3A ∷ [])) (decimal m), length-append (decimal k) (0x3A ∷ []))
+    quorum_left : after_term (0x32 ∷ k ∷ m ∷ codes) ≡ after_terms m codes
+    quorum_left =
+        let n = (taken_all taken m codes).size in
+        let e : 3 + n ≡ suc (suc (suc n)) = omega arith in
+        ap (λ (x : Taken). drop x.size (0x32 ∷ k ∷ m ∷ codes)) quorum_is ∙ ap (λ (j : ℕ). drop j (0x32 ∷ k ∷ m ∷ codes)) e
 
-  pub k_room : to + length (decimal k) ≤ length before
-  k_room = omega (arith, quorum_long)
+-- what `quorum` writes where the bytes after the code are no k and m in range
+module _ (before : State) (w : IsWhole 0x32 before.codes 0x2A) (room : length before.written + length (flat (fewest (term_in (0x32 ∷ before.codes)))) ≤ 192) where
+  pub top_room : length before.written < 192
+  top_room = omega (arith, rw w.text at room)
 
-  module _ (one : List ℕ) (e : ℕ) (p : Put (decimal k) before one to e) where
-    one_long : length one ≡ length before
-    one_long = put-length (decimal k) before one to e p k_room
+  pub top_wrote : (after : State) → after ≡ wrote before before.codes (0x2A ∷ []) → after ≡ wrote before (after_term (0x32 ∷ before.codes)) (flat (fewest (term_in (0x32 ∷ before.codes))))
+  top_wrote after p = p ∙ rw (w.text, w.left) refl
 
-    pub colon_inside : e < length before
-    colon_inside = omega (arith, quorum_long, p.ends)
+-- and where they are; k and m are passed
+module _ (k m : ℕ) (codes written : List ℕ) (fits : quorate k m ≡ true) (before : State) (begun : before ≡ state (k ∷ m ∷ codes) written)
+    (room : length before.written + length (flat (fewest (term_in (0x32 ∷ before.codes)))) ≤ 192) where
+  abbrev passed : State
+  passed = state codes written
 
-    pub colon_room : e < length one
-    colon_room = omega (arith, colon_inside, one_long)
+  abbrev all_at : List ℕ → List ℕ
+  all_at cs = flat_all 0x28 (places_in m cs)
 
-    colon_put : Put (decimal k ++ (0x3A ∷ [])) before (set one e 0x3A) to (e + 1)
-    colon_put = put-more (decimal k) (0x3A ∷ []) before one (set one e 0x3A) to e (e + 1) p (put_one one e 0x3A colon_room) (omega (arith, quorum_long))
+  abbrev colon : List ℕ
+  colon = decimal k ++ (0x3A ∷ [])
 
-    colon_long : length (set one e 0x3A) ≡ length before
-    colon_long = length-set one e 0x3A ∙ one_long
+  abbrev numbers : List ℕ
+  numbers = colon ++ decimal m
 
-    pub m_room : e + 1 + length (decimal m) ≤ length (set one e 0x3A)
-    m_room = omega (arith, quorum_long, colon_long, p.ends)
+  abbrev listed : List ℕ
+  listed = numbers ++ all_at codes
 
-    module _ (two : List ℕ) (f : ℕ) (q : Put (decimal m) (set one e 0x3A) two (e + 1) f) where
-      m_put : Put ((decimal k ++ (0x3A ∷ [])) ++ decimal m) before two to f
-      m_put = put-more (decimal k ++ (0x3A ∷ [])) (decimal m) before (set one e 0x3A) two to (e + 1) f colon_put q (omega (arith, quorum_long, length-append (decimal k) (0x3A ∷ [])))
+  end_fits : length written + length (listed ++ (0x29 ∷ [])) ≤ 192
+  end_fits = rw (quorum_text k m codes fits) at (rw begun at room)
 
-      two_long : length two ≡ length before
-      two_long = put-length (decimal m) (set one e 0x3A) two (e + 1) f q m_room ∙ colon_long
+  all_fits : length written + length listed ≤ 192
+  all_fits = front (length written) listed (0x29 ∷ []) 192 end_fits
 
-      pub places_room : f + length all ≤ length two
-      places_room = omega (arith, quorum_long, two_long, p.ends, q.ends)
+  numbers_fit : length written + length numbers ≤ 192
+  numbers_fit = front (length written) numbers (all_at codes) 192 all_fits
 
-      module _ (three : List ℕ) (next g : ℕ) (w : WrotePlaces bytes (at + 3) m 0x28 two three f next g) where
-        places-put : Put (((decimal k ++ (0x3A ∷ [])) ++ decimal m) ++ all) before three to g
-        places-put = put-more ((decimal k ++ (0x3A ∷ [])) ++ decimal m) all before two three to f g m_put w.written (omega (arith, quorum_long, length-append (decimal k ++ (0x3A ∷ [])) (decimal m), length-append (decimal k) (0x3A ∷ [])))
+  colon_fits : length written + length colon ≤ 192
+  colon_fits = front (length written) colon (decimal m) 192 numbers_fit
 
-        three_long : length three ≡ length before
-        three_long = put-length all two three f g w.written places_room ∙ two_long
+  pub k_room : length written + length (decimal k) ≤ 192
+  k_room = front (length written) (decimal k) (0x3A ∷ []) 192 colon_fits
 
-        pub end_inside : g < length before
-        end_inside = omega (arith, quorum_long, p.ends, q.ends, w.written.ends)
+  module _ (s : State) (p : s ≡ wrote passed codes (decimal k)) where
+    pub colon_room : length s.written < 192
+    colon_room = omega (arith, room_after passed s codes (decimal k) p (λ cs. cs) (λ cs. 0x3A ∷ []) 192 colon_fits)
 
-        pub end_room : g < length three
-        end_room = omega (arith, end_inside, three_long)
+    module _ (t : State) (q : t ≡ wrote s s.codes (0x3A ∷ [])) where
+      colon-wrote : t ≡ wrote passed codes colon
+      colon-wrote = wrote_both passed s codes (decimal k) p (λ cs. cs) (λ cs. 0x3A ∷ []) t q
 
-        pub quorum_wrote : Wrote bytes at 0 before (set three g 0x29) to next (g + 1)
-        quorum_wrote = record {
-          past = omega (arith, w.past, ap (λ (x : Taken). x.size) is);
-          written = rw quorum_text
-              (put-more (((decimal k ++ (0x3A ∷ [])) ++ decimal m) ++ all) (0x29 ∷ []) before three (set three g 0x29) to g (g + 1) places-put (put_one three g 0x29 end_room)
-              (omega (arith, quorum_long, length-append ((decimal k ++ (0x3A ∷ [])) ++ decimal m) all, length-append (decimal k ++ (0x3A ∷ [])) (decimal m), length-append (decimal k) (0x3A ∷ []))));
-        }
+      pub m_room : length t.written + length (decimal m) ≤ 192
+      m_room = room_after passed t codes colon colon-wrote (λ cs. cs) (λ cs. decimal m) 192 numbers_fit
+
+      module _ (u : State) (x : u ≡ wrote t t.codes (decimal m)) where
+        m-wrote : u ≡ wrote passed codes numbers
+        m-wrote = wrote_both passed t codes colon colon-wrote (λ cs. cs) (λ cs. decimal m) u x
+
+        pub places_less : length u.codes ≡ length codes
+        places_less = rw m-wrote refl
+
+        pub places_room : length u.written + length (all_at u.codes) ≤ 192
+        places_room = room_after passed u codes numbers m-wrote (after_terms m) all_at 192 all_fits
+
+        module _ (v : State) (y : v ≡ wrote u (after_terms m u.codes) (all_at u.codes)) where
+          places-wrote : v ≡ wrote passed (after_terms m codes) listed
+          places-wrote = wrote_both passed u codes numbers m-wrote (after_terms m) all_at v y
+
+          pub end_room : length v.written < 192
+          end_room = omega (arith, room_after passed v (after_terms m codes) listed places-wrote (λ cs. cs) (λ cs. 0x29 ∷ []) 192 end_fits)
+
+          pub quorum_wrote : (after : State) → after ≡ wrote v v.codes (0x29 ∷ []) → after ≡ wrote before (after_term (0x32 ∷ before.codes)) (flat (fewest (term_in (0x32 ∷ before.codes))))
+          quorum_wrote after z =
+              wrote_both passed v (after_terms m codes) listed places-wrote (λ cs. cs) (λ cs. 0x29 ∷ []) after z ∙ rw (begun, quorum_text k m codes fits, quorum_left k m codes fits) refl

@@ -1,8 +1,8 @@
--- What each code is on paper, and what writing at a place leaves in the buffer. Assumes nothing: these are definitions.
-use Rattle.std.specs.Prelude.{ℕ, ◌+◌, ◌≡◌, cond, List, [], ◌∷◌, ◌++◌, eqb, ltb, leb, length, take, drop}
+-- What each code is on paper, and what writing leaves. Assumes nothing: these are definitions.
+use Rattle.std.specs.Prelude.{ℕ, ◌+◌, cond, List, [], ◌∷◌, ◌++◌, eqb, ltb, leb, drop}
 use Rattle.model.specs.Terms.{Term}
-use Rattle.model.specs.Texts.{Tree, Trees, flat, flat_all, at_most, fewest, fewest_all}
-use Rattle.words.specs.AnyBytes.{taken_all, taken, term_in}
+use Rattle.model.specs.Texts.{Tree, Trees, at_most, fewest, fewest_all}
+use Rattle.words.specs.AnyBytes.{taken_all, taken}
 use Rattle.terms.specs.declared.Joiner.TheVariants.{Both, Either}
 use Rattle.writing.specs.declared.Mark.{Mark}
 use Rattle.writing.specs.declared.Mark.TheVariants.{Whole, Sign, Between, Quorum}
@@ -31,21 +31,21 @@ within l t = at_most l (fewest t)
 abbrev pub places_in : ℕ → List ℕ → Trees
 places_in m bytes = fewest_all (taken_all taken m bytes).terms
 
--- f stands in d from `to` on, in place of what stood there
-abbrev pub put : List ℕ → ℕ → List ℕ → List ℕ
-put d to f = take to d ++ (f ++ drop (to + length f) d)
+-- A text that is being written: what is left of the codes, and the characters that are written.
+pub record State : Type 0 where
+  pub codes : List ℕ
+  pub written : List ℕ
 
--- f was put at `to`, and ends before `end`
-pub record Put (f before after : List ℕ) (to end : ℕ) : Type 0 where
-  pub ends : end ≡ to + length f
-  pub text : after ≡ put before to f
+abbrev pub state : List ℕ → List ℕ → State
+state codes written = record { codes = codes; written = written }
 
--- What writing at a place gives: the place after the term that the bytes there stand for, and its text.
-pub record Wrote (bytes : List ℕ) (at l : ℕ) (before after : List ℕ) (to next end : ℕ) : Type 0 where
-  pub past : next ≡ at + (taken (drop at bytes)).size
-  pub written : Put (flat (within l (term_in (drop at bytes)))) before after to end
+-- f was written, and these codes are left
+abbrev pub wrote : State → List ℕ → List ℕ → State
+wrote s codes f = state codes (s.written ++ f)
 
--- The same of m terms one after another, the first of them after c.
-pub record WrotePlaces (bytes : List ℕ) (at m c : ℕ) (before after : List ℕ) (to next end : ℕ) : Type 0 where
-  pub past : next ≡ at + (taken_all taken m (drop at bytes)).size
-  pub written : Put (flat_all c (places_in m (drop at bytes))) before after to end
+-- what is left of the codes after a term, and after m of them
+abbrev pub after_term : List ℕ → List ℕ
+after_term codes = drop (taken codes).size codes
+
+abbrev pub after_terms : ℕ → List ℕ → List ℕ
+after_terms m codes = drop (taken_all taken m codes).size codes

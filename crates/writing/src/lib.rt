@@ -1,16 +1,16 @@
 // Terms on paper (document 02, K1 and K4): terms are written as texts.
 #![tactic(auto)]
 
-ghost use Rattle.std.specs.Prelude.{◌≡◌, ◌+◌, ◌-◌, ◌≤◌, ◌<◌, length, drop, get_or};
-ghost use Rattle.model.specs.Texts.{decimal, flat, flat_all};
+ghost use Rattle.std.specs.Prelude.{◌≡◌, ◌+◌, ◌≤◌, ◌<◌, [], ◌∷◌, length, take};
+ghost use Rattle.model.specs.Texts.{decimal, flat, flat_all, fewest, join_rank};
 ghost use Rattle.model.specs.Notation.{write_term};
 ghost use Rattle.words.specs.AnyBytes.{term_in};
-ghost use Rattle.model.specs.Texts.{join_rank};
 ghost use Rattle.refusals.specs.Results.{outcome_of};
 ghost use Rattle.terms.specs.Joiners.{kind};
-ghost use Rattle.writing.specs.Writing.{mark_of, bracketed, within, places_in, Put, Wrote, WrotePlaces};
+ghost use Rattle.writing.specs.Writing.{mark_of, bracketed, within, places_in, State, state, wrote, after_term, after_terms};
 
 use refusals::Refusal;
+use std::marker::Model;
 use terms::Joiner;
 
 // What a code is on paper.
@@ -42,126 +42,135 @@ fn mark_of(code: u8) -> Mark
     }
 }
 
-// Where writing stands: the next code, and the next character.
-#[derive(Clone, Copy, Debug, PartialEq, Eq)]
-struct Place {
-    next: usize,
+// A term that is written as a text: what is left of its codes, and a scratch, of which the first `to` bytes are written. No text is over 192 characters.
+// Kept: the scratch is copied at the end. Of a value with a model that holds the lent buffer itself, a proof learns no more than the buffer's length.
+#[derive(Drop)]
+struct Writer<'a> {
+    codes: &'a [u8],
+    scratch: [u8; 192],
     to: usize,
 }
 
-// Kept: codes and text in a writer, with their places, would be named as often in the functions below, and longer in their clauses.
-// Puts the bracket c at `to` if a list of rank `own` needs it, where only ranks up to `rank` stand without. The result is the place after it.
-fn put_bracket(c: u8, own: u8, rank: u8, text: &mut [u8], to: usize) -> usize
-    requires { to + length (bracketed c own rank) ≤ length text.old }
-    ensures { Put (bracketed c own rank) text.old text.new to result }
-{
-    if own <= rank {
-        return to;
-    }
-    text[to] = c;
-    to + 1
+impl<'a> Model for Writer<'a> {
+    ghost Value = { State };
+
+    ghost view = { λ w. state w.codes.now (take w.to w.scratch) };
+
+    ghost invariant = { λ w. w.to ≤ 192 };
 }
 
-// Puts a number of a quorum at `to`, in decimal. The result is the place after it.
-// Kept: one digit or two, into the text where it stands; what prints needs a formatter over the text, which would be as long.
-fn put_number(k: u8, text: &mut [u8], to: usize) -> usize
-    requires { (k ≤ 12) × (to + length (decimal k) ≤ length text.old) }
-    ensures { Put (decimal k) text.old text.new to result }
-{
-    if k < 10 {
-        text[to] = b'0' + k;
-        return to + 1;
+impl<'a> Writer<'a> {
+    fn new(codes: &'a [u8]) -> Writer<'a>
+        ensures { result ≡ state codes.now [] }
+    {
+        Writer {
+            codes,
+            scratch: [0; 192],
+            to: 0,
+        }
     }
-    text[to] = b'1';
-    text[to + 1] = b'0' + (k - 10);
-    to + 2
-}
 
-// Writes the first `left` terms from `at` on, c before the first of them and a comma before each other.
-#[cycle(write_part_write_places_write_quorum)]
-fn write_places(codes: &[u8], at: usize, left: u8, c: u8, text: &mut [u8], to: usize) -> Place
-    requires { to + length (flat_all c (places_in left (drop at codes.now))) ≤ length text.old }
-    ensures { WrotePlaces codes.now at left c text.old text.new to result.next result.to }
-{
-    if left == 0 {
-        return Place { next: at, to };
+    // The characters written so far.
+    fn text(&self) -> &[u8]
+        ensures { result.now ≡ self.now.written }
+    {
+        &self.scratch[..self.to]
     }
-    text[to] = c;
-    let part = write_part(codes, at, 2, text, to + 1);
-    write_places(codes, part.next, left - 1, b',', text, part.to)
-}
 
-// Writes the quorum whose code stands at `at`: k, a colon, m, and its parts in brackets. A code without a k and an m in range stands for the strongest party.
-#[cycle(write_part_write_places_write_quorum)]
-fn write_quorum(codes: &[u8], at: usize, text: &mut [u8], to: usize) -> Place
-    requires { (at < length codes.now) × (get_or codes.now at 0 ≡ 0x32) × (to + length (flat (within 0 (term_in (drop at codes.now)))) ≤ length text.old) }
-    ensures { Wrote codes.now at 0 text.old text.new to result.next result.to }
-{
-    if !words::in_range_at(codes, at) {
-        text[to] = b'*';
-        return Place {
-            next: at + 1,
-            to: to + 1,
+    // One character more.
+    fn put(&mut self, c: u8)
+        requires { length self.old.written < 192 }
+        ensures { self.new ≡ wrote self.old self.old.codes (c ∷ []) }
+    {
+        self.scratch[self.to] = c;
+        self.to += 1;
+    }
+
+    // The bracket c, if a list of rank `own` needs it where only ranks up to `rank` stand without.
+    fn bracket(&mut self, c: u8, own: u8, rank: u8)
+        requires { length self.old.written + length (bracketed c own rank) ≤ 192 }
+        ensures { self.new ≡ wrote self.old self.old.codes (bracketed c own rank) }
+    {
+        if rank < own {
+            self.put(c);
+        }
+    }
+
+    // A number of a quorum, in decimal.
+    // Kept: one digit or two; what prints needs a formatter over the writer, which would be as long.
+    fn number(&mut self, k: u8)
+        requires { (k ≤ 12) × (length self.old.written + length (decimal k) ≤ 192) }
+        ensures { self.new ≡ wrote self.old self.old.codes (decimal k) }
+    {
+        if k < 10 {
+            self.put(b'0' + k);
+        } else {
+            self.put(b'1');
+            self.put(b'0' + (k - 10));
+        }
+    }
+
+    // The first `left` terms, c before the first of them and a comma before each other.
+    #[cycle(part_places_quorum)]
+    fn places(&mut self, left: u8, c: u8)
+        requires { length self.old.written + length (flat_all c (places_in left self.old.codes)) ≤ 192 }
+        ensures { self.new ≡ wrote self.old (after_terms left self.old.codes) (flat_all c (places_in left self.old.codes)) }
+    {
+        if left == 0 {
+            return;
+        }
+        self.put(c);
+        self.part(2);
+        self.places(left - 1, b',');
+    }
+
+    // The quorum whose code is passed: k, a colon, m, and its parts in brackets. A code without a k and an m in range stands for the strongest party.
+    #[cycle(part_places_quorum)]
+    fn quorum(&mut self)
+        requires { length self.old.written + length (flat (fewest (term_in (0x32 ∷ self.old.codes)))) ≤ 192 }
+        ensures { self.new ≡ wrote self.old (after_term (0x32 ∷ self.old.codes)) (flat (fewest (term_in (0x32 ∷ self.old.codes)))) }
+    {
+        match self.codes {
+            [k, m, rest @ ..] if terms::in_range(*k, *m) => {
+                self.codes = rest;
+                self.number(*k);
+                self.put(b':');
+                self.number(*m);
+                self.places(*m, b'(');
+                self.put(b')');
+            }
+            _ => self.put(b'*'),
+        }
+    }
+
+    // The first term, in brackets where its rank is over `rank`.
+    #[cycle(part_places_quorum)]
+    fn part(&mut self, rank: u8)
+        requires { length self.old.written + length (flat (within rank (term_in self.old.codes))) ≤ 192 }
+        ensures { self.new ≡ wrote self.old (after_term self.old.codes) (flat (within rank (term_in self.old.codes))) }
+    {
+        let Some((code, rest)) = self.codes.split_first() else {
+            self.put(b'*');
+            return;
         };
-    }
-    let m = codes[at + 2];
-    let colon = put_number(codes[at + 1], text, to);
-    text[colon] = b':';
-    let open = put_number(m, text, colon + 1);
-    let places = write_places(codes, at + 3, m, b'(', text, open);
-    let end = places.to;
-    text[end] = b')';
-    Place {
-        next: places.next,
-        to: end + 1,
-    }
-}
-
-// Writes the term whose codes start at `at`, in brackets where its rank is over `rank`.
-#[cycle(write_part_write_places_write_quorum)]
-fn write_part(codes: &[u8], at: usize, rank: u8, text: &mut [u8], to: usize) -> Place
-    requires { to + length (flat (within rank (term_in (drop at codes.now)))) ≤ length text.old }
-    ensures { Wrote codes.now at rank text.old text.new to result.next result.to }
-{
-    if codes.len() <= at {
-        text[to] = b'*';
-        return Place {
-            next: at,
-            to: to + 1,
-        };
-    }
-    match mark_of(codes[at]) {
-        Mark::Whole(c) => {
-            text[to] = c;
-            Place {
-                next: at + 1,
-                to: to + 1,
+        self.codes = rest;
+        match mark_of(*code) {
+            Mark::Whole(c) => self.put(c),
+            Mark::Sign(c) => {
+                self.part(0);
+                self.put(c);
             }
-        }
-        Mark::Sign(c) => {
-            let part = write_part(codes, at + 1, 0, text, to);
-            let end = part.to;
-            text[end] = c;
-            Place {
-                next: part.next,
-                to: end + 1,
+            Mark::Between(joiner) => {
+                let own = joiner.rank();
+                self.bracket(b'(', own, rank);
+                self.part(own);
+                self.put(joiner.mark());
+                // A list of the same joiner on the right is in brackets.
+                self.part(own - 1);
+                self.bracket(b')', own, rank);
             }
+            Mark::Quorum => self.quorum(),
         }
-        Mark::Between(joiner) => {
-            let own = joiner.rank();
-            let first = put_bracket(b'(', own, rank, text, to);
-            let left = write_part(codes, at + 1, own, text, first);
-            let middle = left.to;
-            text[middle] = joiner.mark();
-            // A list of the same joiner on the right is in brackets.
-            let right = write_part(codes, left.next, joiner.rank() - 1, text, middle + 1);
-            let end = put_bracket(b')', own, rank, text, right.to);
-            Place {
-                next: right.next,
-                to: end,
-            }
-        }
-        Mark::Quorum => write_quorum(codes, at, text, to),
     }
 }
 
@@ -169,13 +178,17 @@ fn write_part(codes: &[u8], at: usize, rank: u8, text: &mut [u8], to: usize) -> 
 pub fn write_term(n: u64, term: &[u8], text: &mut [u8]) -> Result<usize, Refusal>
     ensures { outcome_of result text.new ≡ write_term n term.now text.old }
 {
-    if n < 1 || 12 < n {
+    if !(1..=12).contains(&n) {
         return Err(Refusal::Names);
     }
     if text.len() != 256 {
         return Err(Refusal::TextLength);
     }
     terms::read_term(term, n).map_err(Refusal::Term)?;
-    let end = write_part(term, 0, 2, text, 0);
-    Ok(end.to)
+    let mut writer = Writer::new(term);
+    writer.part(2);
+    let written = writer.text();
+    let count = written.len();
+    text[..count].copy_from_slice(written);
+    Ok(count)
 }

@@ -1,31 +1,61 @@
 -- Each return is a law of `proofs/Calls.antt`.
-use Rattle.std.proofs.Common.{arith, inl, inr}
-use mathlib.Core.Logic.{⊎_elim}
+use Rattle.std.proofs.Common.{◌≡◌, ◌≤◌, ◌&&◌, true, length, sym, ◌∙◌, rules}
+use lib.Dec.{leb}
+use Rattle.std.proofs.lemmas.List.{length-take-le}
 use Rattle.std.proofs.lemmas.Result.{err_from_is_err_and}
+use Rattle.model.specs.Terms.{job_size, read_term}
 use Rattle.refusals.specs.declared.Refusal.TheVariants.{Term}
+use Rattle.refusals.proofs.Results.{Accepted}
 use Rattle.terms.proofs.Accepted.{accepted_as, refused_as}
-use Rattle.writing.proofs.Calls.{term_7, term_81, term_1_to_4, term_room, term_text_lem}
+use Rattle.writing.proofs.Calls.{term_7, term_81, term_1_to_4, term_room, text_room, term_text_lem}
 use Rattle.writing.proofs.write_term.Goals as goal
+use Rattle.writing.proofs.write_term.Goals.{After-contains, Else-not-contains, In_ok-map_err, After-text-written}
 
-pub returns-then-n-lt1 : goal.returns-then-n-lt1
-returns-then-n-lt1 c = term_7 _ _ _ (⊎_elim (λ h. inl h) (λ h. inr h.1) c.then-n-lt1.either)
+-- what the test of n says
+told : (c : After-contains) → c.contains.result ≡ (leb 1 c.args.n && leb c.args.n 12)
+told c = search rules
+
+pub returns-then-not-contains : goal.returns-then-not-contains
+returns-then-not-contains c = term_7 _ _ _ (sym (told (goal.at.returns-then-not-contains c).After-contains) ∙ c.if-not-contains.true)
+
+few : (c : Else-not-contains) → job_size c.args.n ≡ true
+few c = sym (told (goal.at.Else-not-contains c).After-contains) ∙ c.if-not-contains.false
 
 pub returns-then-text-ne256 : goal.returns-then-text-ne256
-returns-then-text-ne256 c = term_81 _ _ _ (omega arith) (omega arith) (λ e. omega arith)
+returns-then-text-ne256 c = term_81 _ _ _ (few (goal.at.returns-then-text-ne256 c).Else-not-contains) c.if-text-ne256.true
 
 pub returns-in_err-map_err : goal.returns-in_err-map_err
 returns-in_err-map_err c =
     let p = err_from_is_err_and c.from_residual.result c.from_residual.ensures.1 in
     let r = refused_as c.args.n c.args.term.now c.read_term.result c.read_term.ensures Term c.map_err.result c.map_err.ensures.cases _ c.in_err-map_err.was in
-    rw (p.1, p.2, r.1) (term_1_to_4 _ _ _ (omega arith) (omega arith) (omega arith) r.0 r.2)
+    rw (p.1, p.2, r.1) (term_1_to_4 _ _ _ (few (goal.at.returns-in_err-map_err c).Else-not-contains) c.if-text-ne256.false r.0 r.2)
 
-pub write_part-end-requires : goal.write_part-end-requires
-write_part-end-requires c =
-    term_room c.args.n c.args.term.now c.args.text.now (omega arith) (omega arith) (omega arith)
-    (accepted_as c.args.n c.args.term.now c.read_term.result c.read_term.ensures Term c.map_err.result c.map_err.ensures.cases _ c.in_ok-map_err.was)
+-- the term is accepted
+accepted : (c : In_ok-map_err) → Accepted (read_term c.args.n c.args.term.now)
+accepted c = accepted_as c.args.n c.args.term.now c.read_term.result c.read_term.ensures Term c.map_err.result c.map_err.ensures.cases _ c.in_ok-map_err.was
+
+pub part-requires : goal.part-requires
+part-requires c =
+    let p = goal.at.part-requires c in
+    rw c.new-writer.ensures (term_room _ _ c.args.text.now (few p.Else-not-contains) c.if-text-ne256.false (accepted p.In_ok-map_err))
+
+-- and its text fits
+fits : (c : After-text-written) → length c.text-written.result.now ≤ length c.args.text.now
+fits c =
+    let p = goal.at.After-text-written c in
+    rw c.text-written.ensures (text_room _ _ _ (few p.Else-not-contains) c.if-text-ne256.false (accepted p.In_ok-map_err) c.part.new.self (c.part.ensures ∙ rw c.new-writer.ensures))
+
+pub slice_bounds-copy_from_slice-end : goal.slice_bounds-copy_from_slice-end
+slice_bounds-copy_from_slice-end c = fits c
+
+pub slice_bounds-copy_from_slice-end-2 : goal.slice_bounds-copy_from_slice-end-2
+slice_bounds-copy_from_slice-end-2 c = sym (length-take-le _ c.args.text.now (fits (goal.at.slice_bounds-copy_from_slice-end-2 c).After-text-written))
+
+pub copy_from_slice-requires : goal.copy_from_slice-requires
+copy_from_slice-requires c = length-take-le _ c.args.text.now (fits (goal.at.copy_from_slice-requires c).After-text-written)
 
 pub returns : goal.returns
 returns c =
-    term_text_lem _ _ _ (omega arith) (omega arith) (omega arith)
-    (accepted_as c.args.n c.args.term.now c.read_term.result c.read_term.ensures Term c.map_err.result c.map_err.ensures.cases _ c.in_ok-map_err.was)
-    _ _ _ c.write_part-end.ensures
+    let p = goal.at.returns c in
+    rw (c.copy_from_slice.ensures.after, c.text-written.ensures)
+    (term_text_lem _ _ _ (few p.Else-not-contains) c.if-text-ne256.false (accepted p.In_ok-map_err) c.part.new.self (c.part.ensures ∙ rw c.new-writer.ensures))

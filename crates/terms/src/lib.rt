@@ -1,14 +1,13 @@
 // Reads terms: one byte for each code, operator first (document 01, "Terms").
 #![tactic(auto)]
 
-ghost use Rattle.std.specs.Prelude.{◌≡◌, IfSome, MatchResult};
-ghost use Rattle.model.specs.Readings.{accepted, refused};
-ghost use Rattle.model.specs.Terms.{quorate, code_of, read_front, read_term};
-ghost use Rattle.refusals.specs.Numbers.{term_number};
+ghost use Rattle.std.specs.Prelude.{◌≡◌, true, ◌+◌};
+ghost use Rattle.model.specs.Readings.{accepted};
+ghost use Rattle.model.specs.Terms.{quorate, code_of, read_term};
 ghost use Rattle.refusals.specs.Results.{term_reading, done};
 ghost use Rattle.model.specs.Texts.{joiner, join_rank};
 ghost use Rattle.terms.specs.Joiners.{kind, joiner_code, joiner_at};
-ghost use Rattle.terms.specs.Readings.{shape_of, rest_of};
+ghost use Rattle.terms.specs.Readings.{shape_of, part_at};
 
 use refusals::TermRefusal;
 
@@ -93,33 +92,35 @@ fn shape_of(code: u8, n: u64) -> Shape
     }
 }
 
-// What stands after a first part of a single code.
-#[tactic(auto, using(crate::proofs::Parts::part_whole))]
-fn past_single(codes: &[u8], n: u64) -> Option<&[u8]>
-    ensures { IfSome result (λ rest. rest_of (read_front n codes.now) ≡ accepted rest.now) }
+// The part that starts at `at` is a single code.
+// Kept: codes and a place, here and below: tried with the codes left in their stead, by slice patterns, and slower (docs/DECISIONS.md, "The design pass").
+#[tactic(auto, using(crate::proofs::Places::part_whole))]
+fn single(codes: &[u8], at: usize, n: u64) -> bool
+    ensures { result ≡ true → part_at codes.now at n ≡ accepted (at + 1) }
 {
-    match codes {
-        [code, rest @ ..] if shape_of(*code, n) == Shape::Whole => Some(rest),
-        _ => None,
-    }
+    at < codes.len() && matches!(shape_of(codes[at], n), Shape::Whole)
 }
 
-// Reads the part that the codes begin with, and gives those after it. It ends where its last part ends, so the loop goes on to that one. A first part of a
-// single code is passed in place; any other is read by a call.
+// Reads the part that starts at `at`, and gives the place of the first code after it. It ends where its last part ends, so the loop goes on to that one.
+// A first part of a single code is passed in place; any other is read by a call.
 #[cycle(read_part_read_quorum)]
-fn read_part(codes: &[u8], n: u64) -> Result<&[u8], TermRefusal>
-    ensures { MatchResult result (λ rest. rest_of (read_front n codes.now) ≡ accepted rest.now) (λ why. rest_of (read_front n codes.now) ≡ refused (term_number why)) }
+fn read_part(codes: &[u8], at: usize, n: u64) -> Result<usize, TermRefusal>
+    ensures { term_reading result ≡ part_at codes.now at n }
 {
-    let mut left = codes;
-    while let [code, rest @ ..] = left {
-        match shape_of(*code, n) {
-            Shape::Whole => return Ok(rest),
-            Shape::One => left = rest,
-            Shape::Two => match past_single(rest, n) {
-                Some(second) => left = second,
-                None => left = read_part(rest, n)?,
-            },
-            Shape::Other => return read_quorum(left, n),
+    let mut here = at;
+    // Kept: the place goes on by one code or past a whole part, as the code there says.
+    while here < codes.len() {
+        match shape_of(codes[here], n) {
+            Shape::Whole => return Ok(here + 1),
+            Shape::One => here += 1,
+            Shape::Two => {
+                if single(codes, here + 1, n) {
+                    here += 2;
+                } else {
+                    here = read_part(codes, here + 1, n)?;
+                }
+            }
+            Shape::Other => return read_quorum(codes, here, n),
         }
     }
     Err(TermRefusal::EndsEarly)
@@ -132,32 +133,33 @@ pub fn in_range(k: u8, m: u8) -> bool
     (1..=m).contains(&k) && m <= 12
 }
 
-// Reads the part that the codes begin with, where it is a quorum by its k, its m and m parts. It calls itself on the parts, and not `read_part`, so that the
-// compiler keeps it out of `read_part`, whose loop then tells codes apart as fast as without quorums.
+// Reads the part that starts at `at`, where it is a quorum by its k, its m and m parts. It calls itself on the parts, and not `read_part`, so that the compiler
+// keeps it out of `read_part`, whose loop then tells codes apart as fast as without quorums.
 #[cycle(read_part_read_quorum)]
-fn read_quorum(codes: &[u8], n: u64) -> Result<&[u8], TermRefusal>
-    ensures { MatchResult result (λ rest. rest_of (read_front n codes.now) ≡ accepted rest.now) (λ why. rest_of (read_front n codes.now) ≡ refused (term_number why)) }
+fn read_quorum(codes: &[u8], at: usize, n: u64) -> Result<usize, TermRefusal>
+    ensures { term_reading result ≡ part_at codes.now at n }
 {
-    let [code, after @ ..] = codes else {
+    if codes.len() <= at {
         return Err(TermRefusal::EndsEarly);
+    }
+    let Shape::Other = shape_of(codes[at], n) else {
+        return read_part(codes, at, n);
     };
-    let Shape::Other = shape_of(*code, n) else {
-        return read_part(codes, n);
-    };
-    if *code != 0x32 {
+    if codes[at] != 0x32 {
         return Err(TermRefusal::NoCode);
     }
-    let [k, m, parts @ ..] = after else {
+    if codes.len() - at < 3 {
         return Err(TermRefusal::EndsEarly);
-    };
-    if !in_range(*k, *m) {
+    }
+    let parts = codes[at + 2];
+    if !in_range(codes[at + 1], parts) {
         return Err(TermRefusal::NoCode);
     }
-    let mut left = parts;
-    for _ in 0..*m {
-        left = read_quorum(left, n)?;
+    let mut next = at + 3;
+    for _ in 0..parts {
+        next = read_quorum(codes, next, n)?;
     }
-    Ok(left)
+    Ok(next)
 }
 
 // Reads a term of a job of n names.
@@ -167,7 +169,7 @@ pub fn read_term(codes: &[u8], n: u64) -> Result<(), TermRefusal>
     if codes.is_empty() || 64 < codes.len() {
         return Err(TermRefusal::Length);
     }
-    if !read_part(codes, n)?.is_empty() {
+    if read_part(codes, 0, n)? < codes.len() {
         return Err(TermRefusal::CodesLeft);
     }
     Ok(())

@@ -24,7 +24,7 @@ pub enum Side {
 }
 
 // A row of a set of coalitions: its four words, lowest first.
-// Kept: what makes a row says which of its words is which (`name_row`, `low_row`), and so do the definitions: an array would have an index in each name's stead.
+// Kept: an array of four words goes through memory at each call, and four fields stay in registers (docs/DECISIONS.md, "Rows of four words").
 #[derive(Clone, Copy, Debug, PartialEq, Eq)]
 pub struct Row {
     pub a: u64,
@@ -189,8 +189,8 @@ pub struct Held {
 }
 
 // There is a name at the place.
-// Kept: of codes and a place, here and below, only the place goes on, and the promises count it from the first code: the rest of the codes in their stead
-// would make them no plainer.
+// Kept: codes and a place, here and below: the place counts from the beginning of a ledger, as `ledgers::term_place` gives it, and where the term reader had the
+// codes left in their stead it was slower.
 fn is_name(codes: &[u8], at: usize) -> bool
     ensures { result ≡ (ltb at (length codes.now) && ltb (get_or codes.now at 0) 12) }
 {

@@ -46,6 +46,25 @@ module _ (before : State) (l : ℕ) (empty : length before.codes ≡ 0) (room : 
   pub none_wrote : (after : State) → after ≡ wrote before before.codes (0x2A ∷ []) → after ≡ wrote before (after_term before.codes) (flat (within l (term_in before.codes)))
   none_wrote after p = p ∙ rw (none, none_text l, none_left) refl
 
+-- the text of a code and what follows it
+module _ (code : ℕ) (codes : List ℕ) (l : ℕ) where
+  pub whole_text_lem : (c : ℕ) → IsWhole code codes c → flat (within l (term_in (code ∷ codes))) ≡ c ∷ []
+  whole_text_lem c w = atom_flat l (fewest (term_in (code ∷ codes))) w.low ∙ w.text
+
+  signed_text : (c : ℕ) → IsSigned code codes c → flat (within l (term_in (code ∷ codes))) ≡ flat (within 0 (term_in codes)) ++ (c ∷ [])
+  signed_text c s = atom_flat l (fewest (term_in (code ∷ codes))) s.low ∙ s.text
+
+  -- in brackets where it needs them
+  joined_text : (c own under : ℕ) → IsJoined code codes c own under → flat (within l (term_in (code ∷ codes)))
+      ≡ (((bracketed 0x28 own l ++ flat (within own (term_in codes))) ++ (c ∷ [])) ++ flat (within under (term_in (after_term codes)))) ++ bracketed 0x29 own l
+  joined_text c own under j =
+      let opened = bracketed 0x28 own l in
+      let left = flat (within own (term_in codes)) in
+      let right = flat (within under (term_in (after_term codes))) in
+      let close = bracketed 0x29 own l in
+      at_most_flat l (fewest (term_in (code ∷ codes)))
+      ∙ rw (j.own_rank, j.text) (rw (append_assoc (opened ++ left) (c ∷ []) right, append_assoc opened left (c ∷ right), append_assoc opened (left ++ (c ∷ right)) close))
+
 -- a code, and what follows it; the code is passed
 module _ (code : ℕ) (codes written : List ℕ) (before : State) (begun : before ≡ state (code ∷ codes) written) (l : ℕ) (room : length before.written + length (flat (within l (term_in before.codes))) ≤ 192) where
   abbrev passed : State
@@ -65,32 +84,29 @@ module _ (code : ℕ) (codes written : List ℕ) (before : State) (begun : befor
 
   -- one character
   module _ (c : ℕ) (w : IsWhole code codes c) where
-    pub whole_text_lem : text ≡ c ∷ []
-    whole_text_lem = atom_flat l (fewest (term_in (code ∷ codes))) w.low ∙ w.text
-
     pub whole_room : length written < 192
-    whole_room = omega (arith, fits (c ∷ []) whole_text_lem)
+    whole_room = omega (arith, fits (c ∷ []) (whole_text_lem code codes l c w))
 
     pub whole_wrote : (after : State) → after ≡ wrote passed codes (c ∷ []) → Done after
-    whole_wrote after p = done after codes (c ∷ []) w.left whole_text_lem p
+    whole_wrote after p = done after codes (c ∷ []) w.left (whole_text_lem code codes l c w) p
 
   -- a part and a sign
   module _ (c : ℕ) (s : IsSigned code codes c) where
     abbrev part : List ℕ
     part = flat (within 0 (term_in codes))
 
-    signed_text : text ≡ part ++ (c ∷ [])
-    signed_text = atom_flat l (fewest (term_in (code ∷ codes))) s.low ∙ s.text
+    part_fits : length written + length (part ++ (c ∷ [])) ≤ 192
+    part_fits = fits (part ++ (c ∷ [])) (signed_text code codes l c s)
 
     pub part_room : length written + length part ≤ 192
-    part_room = front (length written) part (c ∷ []) 192 (fits (part ++ (c ∷ [])) signed_text)
+    part_room = front (length written) part (c ∷ []) 192 part_fits
 
     module _ (mid : State) (p : mid ≡ wrote passed (after_term codes) part) where
       pub sign_room : length mid.written < 192
-      sign_room = omega (arith, room_after passed mid (after_term codes) part p (λ cs. cs) (λ cs. c ∷ []) 192 (fits (part ++ (c ∷ [])) signed_text))
+      sign_room = omega (arith, room_after passed mid (after_term codes) part p (λ cs. cs) (λ cs. c ∷ []) 192 part_fits)
 
       pub signed_wrote : (after : State) → after ≡ wrote mid mid.codes (c ∷ []) → Done after
-      signed_wrote after q = done after (after_term codes) (part ++ (c ∷ [])) s.left signed_text (wrote_both passed mid (after_term codes) part p (λ cs. cs) (λ cs. c ∷ []) after q)
+      signed_wrote after q = done after (after_term codes) (part ++ (c ∷ [])) s.left (signed_text code codes l c s) (wrote_both passed mid (after_term codes) part p (λ cs. cs) (λ cs. c ∷ []) after q)
 
   -- two parts and a joiner, in brackets where they need them
   module _ (c own under : ℕ) (j : IsJoined code codes c own under) where
@@ -112,13 +128,8 @@ module _ (code : ℕ) (codes written : List ℕ) (before : State) (begun : befor
     abbrev last : List ℕ
     last = after_term (after_term codes)
 
-    joined_text : text ≡ (((opening ++ left) ++ (c ∷ [])) ++ right) ++ closing
-    joined_text =
-        at_most_flat l (fewest (term_in (code ∷ codes)))
-        ∙ rw (j.own_rank, j.text) (rw (append_assoc (opening ++ left) (c ∷ []) right, append_assoc opening left (c ∷ right), append_assoc opening (left ++ (c ∷ right)) closing))
-
     all_fits : length written + length ((((opening ++ left) ++ (c ∷ [])) ++ right) ++ closing) ≤ 192
-    all_fits = fits _ joined_text
+    all_fits = fits _ (joined_text code codes l c own under j)
 
     right_fits : length written + length (((opening ++ left) ++ (c ∷ [])) ++ right) ≤ 192
     right_fits = front (length written) (((opening ++ left) ++ (c ∷ [])) ++ right) closing 192 all_fits
@@ -163,4 +174,4 @@ module _ (code : ℕ) (codes written : List ℕ) (before : State) (begun : befor
 
             pub joined_wrote : (after : State) → after ≡ wrote v v.codes closing → Done after
             joined_wrote after z =
-                done after last _ j.left joined_text (wrote_both passed v last (((opening ++ left) ++ (c ∷ [])) ++ right) right-wrote (λ cs. cs) (λ cs. closing) after z)
+                done after last _ j.left (joined_text code codes l c own under j) (wrote_both passed v last (((opening ++ left) ++ (c ∷ [])) ++ right) right-wrote (λ cs. cs) (λ cs. closing) after z)

@@ -43,7 +43,7 @@ fn mark_of(code: u8) -> Mark
 }
 
 // A term that is written as a text: what is left of its codes, and a scratch, of which the first `to` bytes are written. No text is over 192 characters.
-// Kept: the scratch is copied at the end. Of a value with a model that holds the lent buffer itself, a proof learns no more than the buffer's length.
+// Kept: the scratch, which is copied at the end: of what a value with a model leaves in a buffer that it holds, a proof learns the length alone.
 #[derive(Drop)]
 struct Writer<'a> {
     codes: &'a [u8],
@@ -181,7 +181,8 @@ pub fn write_term(n: u64, term: &[u8], text: &mut [u8]) -> Result<usize, Refusal
     if !(1..=12).contains(&n) {
         return Err(Refusal::Names);
     }
-    if text.len() != 256 {
+    let size = text.len();
+    if size != 256 {
         return Err(Refusal::TextLength);
     }
     terms::read_term(term, n).map_err(Refusal::Term)?;

@@ -1,5 +1,5 @@
 -- Each return is a law of `proofs/Calls.antt`.
-use Rattle.std.proofs.Common.{◌≡◌, ◌≤◌, ◌&&◌, true, length, sym, ◌∙◌, rules}
+use Rattle.std.proofs.Common.{◌≡◌, ◌≤◌, ◌&&◌, true, length, sym, ◌∙◌, rules, arith}
 use lib.Dec.{leb}
 use Rattle.std.proofs.lemmas.List.{length-take-le}
 use Rattle.std.proofs.lemmas.Result.{err_from_is_err_and}
@@ -9,7 +9,7 @@ use Rattle.refusals.proofs.Results.{Accepted}
 use Rattle.terms.proofs.Accepted.{accepted_as, refused_as}
 use Rattle.writing.proofs.Calls.{term_7, term_81, term_1_to_4, term_room, text_room, term_text_lem}
 use Rattle.writing.proofs.write_term.Goals as goal
-use Rattle.writing.proofs.write_term.Goals.{After-contains, Else-not-contains, In_ok-map_err, After-text-written}
+use Rattle.writing.proofs.write_term.Goals.{After-contains, Else-not-contains, Else-size-ne256, In_ok-map_err, After-text-written}
 
 -- what the test of n says
 told : (c : After-contains) → c.contains.result ≡ (leb 1 c.args.n && leb c.args.n 12)
@@ -21,14 +21,18 @@ returns-then-not-contains c = term_7 _ _ _ (sym (told (goal.at.returns-then-not-
 few : (c : Else-not-contains) → job_size c.args.n ≡ true
 few c = sym (told (goal.at.Else-not-contains c).After-contains) ∙ c.if-not-contains.false
 
-pub returns-then-text-ne256 : goal.returns-then-text-ne256
-returns-then-text-ne256 c = term_81 _ _ _ (few (goal.at.returns-then-text-ne256 c).Else-not-contains) c.if-text-ne256.true
+pub returns-then-size-ne256 : goal.returns-then-size-ne256
+returns-then-size-ne256 c = term_81 _ _ _ (few (goal.at.returns-then-size-ne256 c).Else-not-contains) (λ e. omega arith)
+
+-- the buffer is of 256 bytes
+sized : (c : Else-size-ne256) → length c.args.text.now ≡ 256
+sized c = omega arith
 
 pub returns-in_err-map_err : goal.returns-in_err-map_err
 returns-in_err-map_err c =
     let p = err_from_is_err_and c.from_residual.result c.from_residual.ensures.1 in
     let r = refused_as c.args.n c.args.term.now c.read_term.result c.read_term.ensures Term c.map_err.result c.map_err.ensures.cases _ c.in_err-map_err.was in
-    rw (p.1, p.2, r.1) (term_1_to_4 _ _ _ (few (goal.at.returns-in_err-map_err c).Else-not-contains) c.if-text-ne256.false r.0 r.2)
+    rw (p.1, p.2, r.1) (term_1_to_4 _ _ _ (few (goal.at.returns-in_err-map_err c).Else-not-contains) (sized (goal.at.returns-in_err-map_err c).Else-size-ne256) r.0 r.2)
 
 -- the term is accepted
 accepted : (c : In_ok-map_err) → Accepted (read_term c.args.n c.args.term.now)
@@ -37,13 +41,13 @@ accepted c = accepted_as c.args.n c.args.term.now c.read_term.result c.read_term
 pub part-requires : goal.part-requires
 part-requires c =
     let p = goal.at.part-requires c in
-    rw c.new-writer.ensures (term_room _ _ c.args.text.now (few p.Else-not-contains) c.if-text-ne256.false (accepted p.In_ok-map_err))
+    rw c.new-writer.ensures (term_room _ _ c.args.text.now (few p.Else-not-contains) (sized p.Else-size-ne256) (accepted p.In_ok-map_err))
 
 -- and its text fits
 fits : (c : After-text-written) → length c.text-written.result.now ≤ length c.args.text.now
 fits c =
     let p = goal.at.After-text-written c in
-    rw c.text-written.ensures (text_room _ _ _ (few p.Else-not-contains) c.if-text-ne256.false (accepted p.In_ok-map_err) c.part.new.self (c.part.ensures ∙ rw c.new-writer.ensures))
+    rw c.text-written.ensures (text_room _ _ _ (few p.Else-not-contains) (sized p.Else-size-ne256) (accepted p.In_ok-map_err) c.part.new.self (c.part.ensures ∙ rw c.new-writer.ensures))
 
 pub slice_bounds-copy_from_slice-end : goal.slice_bounds-copy_from_slice-end
 slice_bounds-copy_from_slice-end c = fits c
@@ -58,4 +62,4 @@ pub returns : goal.returns
 returns c =
     let p = goal.at.returns c in
     rw (c.copy_from_slice.ensures.after, c.text-written.ensures)
-    (term_text_lem _ _ _ (few p.Else-not-contains) c.if-text-ne256.false (accepted p.In_ok-map_err) c.part.new.self (c.part.ensures ∙ rw c.new-writer.ensures))
+    (term_text_lem _ _ _ (few p.Else-not-contains) (sized p.Else-size-ne256) (accepted p.In_ok-map_err) c.part.new.self (c.part.ensures ∙ rw c.new-writer.ensures))

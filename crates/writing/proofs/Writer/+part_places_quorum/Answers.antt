@@ -143,7 +143,7 @@ small t c =
 pub quorum-number-requires : goal.quorum-number-requires
 quorum-number-requires t c =
     let p = (goal.at.quorum-number-requires t c).Then-in_range in
-    ((small t p).0, k_room _ _ _ _ (sized t p) c.args.self.now (numbered t p) c.requires)
+    (omega (arith, small t p), k_room _ _ _ _ (sized t p) c.args.self.now (numbered t p) c.requires)
 
 pub quorum-put-requires : goal.quorum-put-requires
 quorum-put-requires t c =
@@ -153,7 +153,7 @@ quorum-put-requires t c =
 pub quorum-number-requires-in-len2-up : goal.quorum-number-requires-in-len2-up
 quorum-number-requires-in-len2-up t c =
     let p = (goal.at.quorum-number-requires-in-len2-up t c).Then-in_range in
-    ((small t p).1, m_room _ _ _ _ (sized t p) c.args.self.now (numbered t p) c.requires c.number.new.self c.number.ensures c.put.new.self c.put.ensures)
+    (omega (arith, small t p), m_room _ _ _ _ (sized t p) c.args.self.now (numbered t p) c.requires c.number.new.self c.number.ensures c.put.new.self c.put.ensures)
 
 pub quorum-places-requires : goal.quorum-places-requires
 quorum-places-requires t c =

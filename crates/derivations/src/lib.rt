@@ -16,7 +16,7 @@ use counting::Asked;
 use fields::TermField;
 use ledgers::Sizes;
 use refusals::Refusal;
-use rules::{LEFT, RIGHT};
+use rules::{Inference, LEFT, RIGHT};
 use words::Side;
 
 // Step k, a part of the derivation: as much of it as there is.
@@ -205,11 +205,14 @@ impl Step<'_> {
         ensures { (l : Ledger) → Ready book.entry.ledger.now book.entry.sizes.names (rule_is self.now.rule) self.now.bytes.now l → result ≡ meets l (rule_is self.now.rule) self.now.bytes.now (step_at derivation.now (byte 1 self.now.bytes.now)) (step_at derivation.now (byte 2 self.now.bytes.now)) }
     {
         let step = self.bytes;
-        let a = step_at(derivation, step[1] as usize);
-        let b = step_at(derivation, step[2] as usize);
+        let inference = Inference {
+            step,
+            first: step_at(derivation, step[1] as usize),
+            second: step_at(derivation, step[2] as usize),
+        };
         match self.rule {
             Rule::Static => {
-                questions::acts_statically(book.sizes.names, rules::left(step), rules::right(step))
+                questions::acts_statically(book.sizes.names, LEFT.bytes(step), RIGHT.bytes(step))
             }
             Rule::Granted => {
                 let grant = step[3] as usize;
@@ -217,10 +220,10 @@ impl Step<'_> {
                 let q = ledgers::grant_term(book.ledger, grant, ledgers::Q);
                 rules::has_terms(step, p, q)
             }
-            Rule::Transitive => rules::transitive(step, a, b),
-            Rule::Conjunction => rules::conjunction(step, a, b),
-            Rule::Disjunction => rules::disjunction(step, a, b),
-            Rule::Projection(side) => rules::projection(side, step, a),
+            Rule::Transitive => inference.transitive(),
+            Rule::Conjunction => inference.conjunction(),
+            Rule::Disjunction => inference.disjunction(),
+            Rule::Projection(side) => rules::projection(side, step, inference.first),
         }
     }
 }

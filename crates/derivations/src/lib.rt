@@ -1,7 +1,7 @@
 // The derivation check, step by step, and quoting (document 01, "Derivations"), on a day (document 02, K2).
 #![tactic(auto)]
 
-ghost use Rattle.std.specs.Prelude.{◌≡◌, Bool, ◌||◌, ◌+◌, ◌*◌, ◌≤◌, ◌<◌, eqb, length};
+ghost use Rattle.std.specs.Prelude.{◌≡◌, Bool, ◌||◌, ◌≤◌, ◌<◌, eqb, length};
 ghost use Rattle.model.specs.Bytes.{byte};
 ghost use Rattle.model.specs.Readings.{refused_as};
 ghost use Rattle.model.specs.Grants.{Grant};
@@ -24,14 +24,6 @@ fn step_at(derivation: &[u8], k: usize) -> &[u8]
     ensures { result.now ≡ step_at derivation.now k }
 {
     fields::piece(derivation, 136, k)
-}
-
-// The same, where all of it is there.
-fn whole_step(derivation: &[u8], k: usize) -> &[u8; 136]
-    requires { 136 * (k + 1) ≤ length derivation.now }
-    ensures { result.now ≡ step_at derivation.now k }
-{
-    step_at(derivation, k).try_into().unwrap()
 }
 
 // The rule of a step.
@@ -260,12 +252,15 @@ fn read_step(bytes: &[u8; 136], n: u64) -> Result<Rule, StepRefusal>
     Ok(rule)
 }
 
-// Step k of the derivation.
-fn check_step(derivation: &[u8], k: usize, book: Book<'_>) -> Result<(), StepRefusal>
-    requires { 136 * (k + 1) ≤ length derivation.now }
-    ensures { (l : Ledger) (f : Grant → Bool) → BookOf book.entry.ledger.now book.entry.sizes book.entry.counted l f → step_reading result ≡ check_at l f derivation.now k }
+// A step of the derivation, k being its number.
+fn check_step(
+    derivation: &[u8],
+    k: usize,
+    bytes: &[u8; 136],
+    book: Book<'_>,
+) -> Result<(), StepRefusal>
+    ensures { (l : Ledger) (f : Grant → Bool) → BookOf book.entry.ledger.now book.entry.sizes book.entry.counted l f → step_reading result ≡ check_at l f derivation.now k bytes.now }
 {
-    let bytes = whole_step(derivation, k);
     let rule = read_step(bytes, book.sizes.names)?;
     let step = Step { rule, bytes };
     if !step.premises_before(k) {
@@ -296,14 +291,14 @@ impl From<Refusal> for DerivationRefusal {
 }
 
 // The steps, one after another.
-// Kept: k is asked itself, for the premises before it and for the refusal, so that pieces with their numbers would be no plainer.
 fn check_steps(derivation: &[u8], book: Book<'_>) -> Result<(), DerivationRefusal>
     requires { length derivation.now ≤ 8704 }
     ensures { (l : Ledger) (f : Grant → Bool) → BookOf book.entry.ledger.now book.entry.sizes book.entry.counted l f → checked_of result ≡ check_steps l f derivation.now 0 (step_count derivation.now) }
 {
-    let steps = derivation.len() / 136;
-    for k in 0..steps {
-        check_step(derivation, k, book).map_err(|why| DerivationRefusal::Step(k as u8, why))?;
+    for (k, bytes) in derivation.as_chunks::<136>().0.iter().enumerate() {
+        check_step(derivation, k, bytes, book).map_err(|why| DerivationRefusal::Step(
+            k as u8, why,
+        ))?;
     }
     Ok(())
 }

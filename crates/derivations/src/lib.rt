@@ -132,10 +132,10 @@ fn earlier(used: bool, premise: u8, k: usize) -> bool
     !used || (premise as usize) < k
 }
 
-// The ledger of a derivation, once it is read, and which of its grants count: bit g says whether grant g does.
-// Kept: `soundness::Chosen` has the same but for the names, which are asked here, and its tests are of coalitions: with it this would be no plainer.
+// A derivation, its ledger once it is read, and which of the grants count: bit g says whether grant g does.
 #[derive(Clone, Copy)]
 struct Book<'a> {
+    derivation: &'a [u8],
     ledger: &'a [u8],
     sizes: Sizes,
     counted: u64,
@@ -193,14 +193,14 @@ impl Step<'_> {
     }
 
     // The step meets its rule, its terms being read and its grant being there.
-    fn meets(&self, derivation: &[u8], book: Book<'_>) -> bool
-        ensures { (l : Ledger) → Ready book.entry.ledger.now book.entry.sizes.names (rule_is self.now.rule) self.now.bytes.now l → result ≡ meets l (rule_is self.now.rule) self.now.bytes.now (step_at derivation.now (byte 1 self.now.bytes.now)) (step_at derivation.now (byte 2 self.now.bytes.now)) }
+    fn meets(&self, book: Book<'_>) -> bool
+        ensures { (l : Ledger) → Ready book.entry.ledger.now book.entry.sizes.names (rule_is self.now.rule) self.now.bytes.now l → result ≡ meets l (rule_is self.now.rule) self.now.bytes.now (step_at book.entry.derivation.now (byte 1 self.now.bytes.now)) (step_at book.entry.derivation.now (byte 2 self.now.bytes.now)) }
     {
         let step = self.bytes;
         let inference = Inference {
             step,
-            first: step_at(derivation, step[1] as usize),
-            second: step_at(derivation, step[2] as usize),
+            first: step_at(book.derivation, step[1] as usize),
+            second: step_at(book.derivation, step[2] as usize),
         };
         match self.rule {
             Rule::Static => {
@@ -253,13 +253,8 @@ fn read_step(bytes: &[u8; 136], n: u64) -> Result<Rule, StepRefusal>
 }
 
 // A step of the derivation, k being its number.
-fn check_step(
-    derivation: &[u8],
-    k: usize,
-    bytes: &[u8; 136],
-    book: Book<'_>,
-) -> Result<(), StepRefusal>
-    ensures { (l : Ledger) (f : Grant → Bool) → BookOf book.entry.ledger.now book.entry.sizes book.entry.counted l f → step_reading result ≡ check_at l f derivation.now k bytes.now }
+fn check_step(book: Book<'_>, k: usize, bytes: &[u8; 136]) -> Result<(), StepRefusal>
+    ensures { (l : Ledger) (f : Grant → Bool) → BookOf book.entry.ledger.now book.entry.sizes book.entry.counted l f → step_reading result ≡ check_at l f book.entry.derivation.now k bytes.now }
 {
     let rule = read_step(bytes, book.sizes.names)?;
     let step = Step { rule, bytes };
@@ -267,7 +262,7 @@ fn check_step(
         return Err(StepRefusal::Premise);
     }
     step.check_grant(book)?;
-    if !step.meets(derivation, book) {
+    if !step.meets(book) {
         return Err(StepRefusal::Rule);
     }
     Ok(())
@@ -291,14 +286,12 @@ impl From<Refusal> for DerivationRefusal {
 }
 
 // The steps, one after another.
-fn check_steps(derivation: &[u8], book: Book<'_>) -> Result<(), DerivationRefusal>
-    requires { length derivation.now ≤ 8704 }
-    ensures { (l : Ledger) (f : Grant → Bool) → BookOf book.entry.ledger.now book.entry.sizes book.entry.counted l f → checked_of result ≡ check_steps l f derivation.now 0 (step_count derivation.now) }
+fn check_steps(book: Book<'_>) -> Result<(), DerivationRefusal>
+    requires { length book.derivation.now ≤ 8704 }
+    ensures { (l : Ledger) (f : Grant → Bool) → BookOf book.entry.ledger.now book.entry.sizes book.entry.counted l f → checked_of result ≡ check_steps l f book.entry.derivation.now 0 (step_count book.entry.derivation.now) }
 {
-    for (k, bytes) in derivation.as_chunks::<136>().0.iter().enumerate() {
-        check_step(derivation, k, bytes, book).map_err(|why| DerivationRefusal::Step(
-            k as u8, why,
-        ))?;
+    for (k, bytes) in book.derivation.as_chunks::<136>().0.iter().enumerate() {
+        check_step(book, k, bytes).map_err(|why| DerivationRefusal::Step(k as u8, why))?;
     }
     Ok(())
 }
@@ -328,14 +321,12 @@ pub fn check_derivation(
         day,
     };
     let counted = asked.counted();
-    check_steps(
+    check_steps(Book {
         derivation,
-        Book {
-            ledger,
-            sizes,
-            counted,
-        },
-    )
+        ledger,
+        sizes,
+        counted,
+    })
 }
 
 // The block of the grant that a step of an accepted derivation names, a part of the ledger, if there is such a step and its rule is that of a grant.

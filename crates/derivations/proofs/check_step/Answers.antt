@@ -21,11 +21,11 @@ returns-in_err-check_grant c l f book =
 pub returns-then-not-meets : goal.returns-then-not-meets
 returns-then-not-meets c l f book =
     let earlier = sym c.premises_before.ensures ∙ c.if-not-premises_before.false in
-    let met = c.meets.ensures l (ready _ _ _ l f book c.args.derivation.now _ _ _ c.in_ok-rule.ensures earlier _ c.in_ok-check_grant.ensures) in
+    let met = c.meets.ensures l (ready _ _ _ l f book c.args.book.derivation.now _ _ _ c.in_ok-rule.ensures earlier _ c.in_ok-check_grant.ensures) in
     rw (last _ _ _ l f book _ _ _ _ c.in_ok-rule.ensures earlier _ c.in_ok-check_grant.ensures _ met, c.if-not-meets.true)
 
 pub returns : goal.returns
 returns c l f book =
     let earlier = sym c.premises_before.ensures ∙ c.if-not-premises_before.false in
-    let met = c.meets.ensures l (ready _ _ _ l f book c.args.derivation.now _ _ _ c.in_ok-rule.ensures earlier _ c.in_ok-check_grant.ensures) in
+    let met = c.meets.ensures l (ready _ _ _ l f book c.args.book.derivation.now _ _ _ c.in_ok-rule.ensures earlier _ c.in_ok-check_grant.ensures) in
     rw (last _ _ _ l f book _ _ _ _ c.in_ok-rule.ensures earlier _ c.in_ok-check_grant.ensures _ met, c.if-not-meets.false)

@@ -38,6 +38,8 @@ enum Rule {
 }
 
 // The bytes of a step that a rule uses: the first premise, the second, the grant.
+// Kept: a flag beside each byte, since a step has the three bytes in any case, and one that the rule doesn't use is tested too; an Option of each, or a
+// case for each set of them, was no plainer.
 #[derive(Clone, Copy)]
 struct Uses {
     first: bool,
@@ -125,7 +127,6 @@ fn filler_form(step: &[u8; 136]) -> bool
 }
 
 // A premise that the rule uses is a step before step k.
-// Kept: whether it is used stands beside the byte, since a step has the byte in any case; an Option of it was no plainer.
 fn earlier(used: bool, premise: u8, k: usize) -> bool
     ensures { result ≡ before used premise k }
 {
@@ -240,9 +241,7 @@ fn read_field(
 fn read_step(bytes: &[u8; 136], n: u64) -> Result<Rule, StepRefusal>
     ensures { rule_reading result ≡ read_step n (rule_of (byte 0 bytes.now)) bytes.now }
 {
-    let Some(rule) = Rule::of(bytes[0]) else {
-        return Err(StepRefusal::Form);
-    };
+    let rule = Rule::of(bytes[0]).ok_or(StepRefusal::Form)?;
     let step = Step { rule, bytes };
     if !step.form() {
         return Err(StepRefusal::Form);

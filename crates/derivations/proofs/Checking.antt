@@ -3,13 +3,14 @@ use Prim.Native.Nat.{ℕ, suc, ◌+◌, ◌-◌, ◌≤◌, ◌<◌}
 use native.Mathlib.Nat.{sub-zero}
 use native.Mathlib.Numerals.{add-one}
 use native.Mathlib.Omega.{arith}
-use mathlib.Core.Path.{◌≡◌, refl, sym, subst, ◌∙◌}
+use mathlib.Core.Path.{◌≡◌, refl, sym, ◌∙◌}
 use mathlib.Core.Bool.{Bool, true, false, cond, not, ◌&&◌, ◌||◌}
 use mathlib.Core.List.{List, []}
 use lib.Dec.{eqb, ltb}
-use lib.ListN.{length}
+use lib.ListN.{length, get_or}
 use Rattle.std.specs.Prelude.{Result, Ok, Err}
 use Rattle.std.specs.Result.{MatchResult, IsErrAnd}
+use Rattle.std.specs.Simd.{first_chunks}
 use Rattle.std.proofs.lemmas.Result.{err_from_is_err_and}
 use Rattle.model.specs.Bytes.{byte}
 use Rattle.model.specs.Coalitions.{member}
@@ -20,11 +21,13 @@ use Rattle.model.specs.Grants.{under, counts_under, Grant, of_grant}
 use Rattle.model.specs.Ledgers.{read_book, Ledger, grant_block}
 use Rattle.model.specs.Answers.{Answer, Yes, Refused as RefusedAnswer}
 use Rattle.model.specs.Derivations.{step_at, Rule, no_rule, rule_of, uses_of, step_form, read_left, read_right, meets, check_step, on_step, check_steps, derivation_length, step_count, check_derivation, if_accepted, quote}
+use Rattle.model.proofs.Blocks.{length-pieces, get_or-pieces}
 use Rattle.model.proofs.Stands.{ledger_stands}
 use Rattle.model.proofs.Prefixes.{bits_say}
 use Rattle.refusals.specs.Results.{done}
 use Rattle.ledgers.specs.declared.Sizes.{Sizes}
 use Rattle.ledgers.proofs.Accepted.{AcceptedBook}
+use Rattle.ledgers.proofs.Checks.{chunks}
 use Rattle.counting.specs.Counted.{counted_in}
 use Rattle.counting.proofs.Accepted.{counted_in_lem}
 use Rattle.derivations.specs.declared.StepRefusal.{StepRefusal}
@@ -117,29 +120,28 @@ tests grants bits l d k step r =
     (and_then (grant_check r step grants bits)
     (λ u. require (meets l r step (step_at d (byte 1 step)) (step_at d (byte 2 step))) 67 (accepted tt)))
 
-module _ (ledger : List ℕ) (sizes : Sizes) (bits : ℕ) (l : Ledger) (f : Grant → Bool) (book : BookOf ledger sizes bits l f) (d : List ℕ) (k : ℕ) (step : List ℕ) (at : step ≡ step_at d k) where
-  answer : check_at l f d k ≡ and_then (read_step sizes.names (rule_of (byte 0 step)) step) (tests sizes.grants bits l d k step)
+module _ (ledger : List ℕ) (sizes : Sizes) (bits : ℕ) (l : Ledger) (f : Grant → Bool) (book : BookOf ledger sizes bits l f) (d : List ℕ) (k : ℕ) (step : List ℕ) where
+  answer : check_at l f d k step ≡ and_then (read_step sizes.names (rule_of (byte 0 step)) step) (tests sizes.grants bits l d k step)
   unfolding check_step read_step tests
   answer =
       let r = rule_of (byte 0 step) in
       let many : length l.grants ≤ 64 = (ledger_stands ledger l book.of.is).count_most in
       let each : member (byte 3 step) bits ≡ of_grant f l.grants (byte 3 step) = rw book.are (bits_say f l.grants (byte 3 step) many) in
-      subst (λ (s : List ℕ). check_step l f d k s (rule_of (byte 0 s)) ≡ and_then (read_step sizes.names r step) (tests sizes.grants bits l d k step)) at
-      (rw book.of.names
+      rw book.of.names
       (all (step_form r step) (is_accepted (read_left l.names step)) (is_accepted (read_right l.names step)) r (tests sizes.grants bits l d k step)
       (premises_before r step k) (not (uses_of r).grant || ltb (byte 3 step) (length l.grants)) (not (uses_of r).grant || of_grant f l.grants (byte 3 step))
-      (meets l r step (step_at d (byte 1 step)) (step_at d (byte 2 step))) (rw (book.of.count, each))))
+      (meets l r step (step_at d (byte 1 step)) (step_at d (byte 2 step))) (rw (book.of.count, each)))
 
-  pub unread : (why : ℕ) → refused why ≡ read_step sizes.names (rule_of (byte 0 step)) step → refused why ≡ check_at l f d k
+  pub unread : (why : ℕ) → refused why ≡ read_step sizes.names (rule_of (byte 0 step)) step → refused why ≡ check_at l f d k step
   unread why e = rw (answer, ← e)
 
   module _ (r : Rule) (read : accepted r ≡ read_step sizes.names (rule_of (byte 0 step)) step) where
-    pub later : premises_before r step k ≡ false → refused 64 ≡ check_at l f d k
+    pub later : premises_before r step k ≡ false → refused 64 ≡ check_at l f d k step
     unfolding tests
     later e = rw (answer, ← read, e)
 
     module _ (earlier : premises_before r step k ≡ true) where
-      pub no_grant : (why : ℕ) → refused why ≡ grant_check r step sizes.grants bits → refused why ≡ check_at l f d k
+      pub no_grant : (why : ℕ) → refused why ≡ grant_check r step sizes.grants bits → refused why ≡ check_at l f d k step
       unfolding tests
       no_grant why e = rw (answer, ← read, earlier, ← e)
 
@@ -155,7 +157,7 @@ module _ (ledger : List ℕ) (sizes : Sizes) (bits : ℕ) (l : Ledger) (f : Gran
             there false b e = cc
 
         module _ (met : Bool) (judged : met ≡ meets l r step (step_at d (byte 1 step)) (step_at d (byte 2 step))) where
-          pub last : check_at l f d k ≡ require met 67 (accepted tt)
+          pub last : check_at l f d k step ≡ require met 67 (accepted tt)
           unfolding tests
           last = rw (answer, ← read, earlier, ← counts, judged)
 
@@ -170,7 +172,7 @@ module _ (l : Ledger) (f : Grant → Bool) (d : List ℕ) where
   unfolding steps_from
   steps_start = rw (sub-zero (step_count d))
 
-  pub steps_more : (k : ℕ) → k < step_count d → steps_from k ≡ on_step k (check_at l f d k) (steps_from (k + 1))
+  pub steps_more : (k : ℕ) → k < step_count d → steps_from k ≡ on_step k (check_at l f d k (step_at d k)) (steps_from (k + 1))
   unfolding steps_from check_steps
   steps_more k h =
       let left : step_count d - k ≡ suc (step_count d - (k + 1)) = omega arith in
@@ -181,6 +183,14 @@ module _ (l : Ledger) (f : Grant → Bool) (d : List ℕ) where
   steps_end k h =
       let none : step_count d - k ≡ 0 = omega arith in
       rw none
+
+-- a derivation cut into its steps
+module _ (d : List ℕ) (steps : List (List ℕ)) (cut : steps ≡ first_chunks 136 (step_count d) d) where
+  steps_count : length steps ≡ step_count d
+  steps_count = rw (cut, chunks 136 (step_count d) d) (length-pieces 136 (step_count d) d)
+
+  pub step_here : (k : ℕ) → k < length steps → get_or steps k [] ≡ step_at d k
+  step_here k h = rw (cut, chunks 136 (step_count d) d) (get_or-pieces 136 (step_count d) k d [] (rw steps_count at h))
 
 -- what the check of step k gives, a refusal with the step's number
 module _ (k : ℕ) (P : StepRefusal → DerivationRefusal → Type 0) (named : (why : StepRefusal) (y : DerivationRefusal) → P why y → y ≡ Step k why) (next : Answer) (r : Reading (Unit {0}))

@@ -5,6 +5,7 @@ use lib.Dec.{leb}
 use Rattle.std.specs.Prelude.{ℕ, Bool, List, true, false, cond, ◌&&◌, eqb}
 use borrow.Author.Tests.{eqb-true, ne_eqb, lt-leb}
 use Rattle.model.specs.Sides.{confidentiality, integrity}
+use mathlib.Core.Logic.{◌⊎◌, inl, inr}
 use mathlib.Core.Path.{◌≡◌, refl}
 use mathlib.Core.Bool.{and_assoc, and-false}
 use Rattle.model.specs.Derivations.{Rule, static, granted, transitive, conjunction, disjunction, projection, no_rule, rule_of, is_rule, uses_of, step_form}
@@ -16,6 +17,22 @@ use Rattle.derivations.specs.declared.Rule.TheVariants.{Static, Granted, Transit
 step_forms : (r : Rule) (step : List ℕ) → step_form r step ≡ (is_rule r && (fields_form r step && filler_form step))
 unfolding step_form fields_form filler_form past_term
 step_forms r step = simp and_assoc
+
+-- a byte that is no rule
+pub no_rule_lem : (r : ℕ) → (r < 1) ⊎ (7 < r) → rule_of r ≡ no_rule
+unfolding rule_of
+no_rule_lem r (inl h) =
+    let e : r ≡ 0 = omega arith in
+    rw e
+no_rule_lem r (inr h) = simp (
+  ne_eqb r 1 (λ e. omega arith),
+  ne_eqb r 2 (λ e. omega arith),
+  ne_eqb r 3 (λ e. omega arith),
+  ne_eqb r 4 (λ e. omega arith),
+  ne_eqb r 5 (λ e. omega arith),
+  ne_eqb r 6 (λ e. omega arith),
+  ne_eqb r 7 (λ e. omega arith),
+)
 
 -- a byte is a rule if it is 1 to 7
 pub is_rule_lem : (r : ℕ) → is_rule (rule_of r) ≡ (leb 1 r && leb r 7)
@@ -31,17 +48,7 @@ is_rule_lem (suc (suc (suc (suc (suc (suc (suc zero))))))) = refl
 is_rule_lem (suc (suc (suc (suc (suc (suc (suc (suc r)))))))) = past (suc (suc (suc (suc (suc (suc (suc (suc r)))))))) (omega arith)
   where
     past : (r : ℕ) → 7 < r → is_rule (rule_of r) ≡ (leb 1 r && leb r 7)
-    past r h = simp (
-      ne_eqb r 1 (λ e. omega arith),
-      ne_eqb r 2 (λ e. omega arith),
-      ne_eqb r 3 (λ e. omega arith),
-      ne_eqb r 4 (λ e. omega arith),
-      ne_eqb r 5 (λ e. omega arith),
-      ne_eqb r 6 (λ e. omega arith),
-      ne_eqb r 7 (λ e. omega arith),
-      lt-leb r 7 h,
-      and-false (leb 1 r),
-    )
+    past r h = rw (no_rule_lem r (inr h), lt-leb r 7 h, and-false (leb 1 r))
 
 -- each case is a rule
 a_rule : (rule : CodeRule) → is_rule (rule_is rule) ≡ true

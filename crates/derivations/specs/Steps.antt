@@ -7,7 +7,7 @@ use Rattle.model.specs.Readings.{Reading, accepted, require, is_accepted}
 use Rattle.model.specs.Terms.{Term, read_term}
 use Rattle.model.specs.Grants.{Grant}
 use Rattle.model.specs.Ledgers.{Ledger, read_ledger}
-use Rattle.model.specs.Derivations.{step_at, Rule, static, granted, transitive, conjunction, disjunction, projection, no_rule, rule_of, uses_of, step_form, read_left, read_right, before, check_step}
+use Rattle.model.specs.Derivations.{Rule, static, granted, transitive, conjunction, disjunction, projection, no_rule, rule_of, uses_of, step_form, read_left, read_right, before, check_step}
 use Rattle.model.specs.Meanings.{grant_bits}
 use Rattle.fields.specs.Terms.{past_term}
 use Rattle.words.specs.FourWords.{side_of}
@@ -73,6 +73,6 @@ pub record Ready (ledger : List ℕ) (n : ℕ) (r : Rule) (step : List ℕ) (l :
   pub right_read : is_accepted (read_right n step) ≡ true
   pub grant_there : (not (uses_of r).grant || ltb (byte 3 step) (length l.grants)) ≡ true
 
--- step k of a derivation
-abbrev pub check_at : Ledger → (Grant → Bool) → List ℕ → ℕ → Reading (Unit {0})
-check_at l f d k = check_step l f d k (step_at d k) (rule_of (byte 0 (step_at d k)))
+-- a step of a derivation, k being its number
+abbrev pub check_at : Ledger → (Grant → Bool) → List ℕ → ℕ → List ℕ → Reading (Unit {0})
+check_at l f d k step = check_step l f d k step (rule_of (byte 0 step))

@@ -1,7 +1,7 @@
 // The derivation check, step by step, and quoting (document 01, "Derivations"), on a day (document 02, K2).
 #![tactic(auto)]
 
-ghost use Rattle.std.specs.Prelude.{◌≡◌, Bool, ◌||◌, ◌+◌, ◌*◌, ◌≤◌, ◌<◌, eqb, length};
+ghost use Rattle.std.specs.Prelude.{◌≡◌, Bool, ◌||◌, ◌≤◌, ◌<◌, eqb, length};
 ghost use Rattle.model.specs.Bytes.{byte};
 ghost use Rattle.model.specs.Readings.{refused_as};
 ghost use Rattle.model.specs.Grants.{Grant};
@@ -16,7 +16,7 @@ use counting::Asked;
 use fields::TermField;
 use ledgers::Sizes;
 use refusals::Refusal;
-use rules::{LEFT, RIGHT};
+use rules::{Inference, LEFT, RIGHT};
 use words::Side;
 
 // Step k, a part of the derivation: as much of it as there is.
@@ -24,14 +24,6 @@ fn step_at(derivation: &[u8], k: usize) -> &[u8]
     ensures { result.now ≡ step_at derivation.now k }
 {
     fields::piece(derivation, 136, k)
-}
-
-// The same, where all of it is there.
-fn whole_step(derivation: &[u8], k: usize) -> &[u8; 136]
-    requires { 136 * (k + 1) ≤ length derivation.now }
-    ensures { result.now ≡ step_at derivation.now k }
-{
-    step_at(derivation, k).try_into().unwrap()
 }
 
 // The rule of a step.
@@ -46,6 +38,8 @@ enum Rule {
 }
 
 // The bytes of a step that a rule uses: the first premise, the second, the grant.
+// Kept: a flag beside each byte, since a step has the three bytes in any case, and one that the rule doesn't use is tested too; an Option of each, or a
+// case for each set of them, was no plainer.
 #[derive(Clone, Copy)]
 struct Uses {
     first: bool,
@@ -133,17 +127,16 @@ fn filler_form(step: &[u8; 136]) -> bool
 }
 
 // A premise that the rule uses is a step before step k.
-// Kept: whether it is used stands beside the byte, since a step has the byte in any case; an Option of it was no plainer.
 fn earlier(used: bool, premise: u8, k: usize) -> bool
     ensures { result ≡ before used premise k }
 {
     !used || (premise as usize) < k
 }
 
-// The ledger of a derivation, once it is read, and which of its grants count: bit g says whether grant g does.
-// Kept: `soundness::Chosen` has the same but for the names, which are asked here, and its tests are of coalitions: with it this would be no plainer.
+// A derivation, its ledger once it is read, and which of the grants count: bit g says whether grant g does.
 #[derive(Clone, Copy)]
 struct Book<'a> {
+    derivation: &'a [u8],
     ledger: &'a [u8],
     sizes: Sizes,
     counted: u64,
@@ -201,15 +194,18 @@ impl Step<'_> {
     }
 
     // The step meets its rule, its terms being read and its grant being there.
-    fn meets(&self, derivation: &[u8], book: Book<'_>) -> bool
-        ensures { (l : Ledger) → Ready book.entry.ledger.now book.entry.sizes.names (rule_is self.now.rule) self.now.bytes.now l → result ≡ meets l (rule_is self.now.rule) self.now.bytes.now (step_at derivation.now (byte 1 self.now.bytes.now)) (step_at derivation.now (byte 2 self.now.bytes.now)) }
+    fn meets(&self, book: Book<'_>) -> bool
+        ensures { (l : Ledger) → Ready book.entry.ledger.now book.entry.sizes.names (rule_is self.now.rule) self.now.bytes.now l → result ≡ meets l (rule_is self.now.rule) self.now.bytes.now (step_at book.entry.derivation.now (byte 1 self.now.bytes.now)) (step_at book.entry.derivation.now (byte 2 self.now.bytes.now)) }
     {
         let step = self.bytes;
-        let a = step_at(derivation, step[1] as usize);
-        let b = step_at(derivation, step[2] as usize);
+        let inference = Inference {
+            step,
+            first: step_at(book.derivation, step[1] as usize),
+            second: step_at(book.derivation, step[2] as usize),
+        };
         match self.rule {
             Rule::Static => {
-                questions::acts_statically(book.sizes.names, rules::left(step), rules::right(step))
+                questions::acts_statically(book.sizes.names, LEFT.bytes(step), RIGHT.bytes(step))
             }
             Rule::Granted => {
                 let grant = step[3] as usize;
@@ -217,10 +213,10 @@ impl Step<'_> {
                 let q = ledgers::grant_term(book.ledger, grant, ledgers::Q);
                 rules::has_terms(step, p, q)
             }
-            Rule::Transitive => rules::transitive(step, a, b),
-            Rule::Conjunction => rules::conjunction(step, a, b),
-            Rule::Disjunction => rules::disjunction(step, a, b),
-            Rule::Projection(side) => rules::projection(side, step, a),
+            Rule::Transitive => inference.transitive(),
+            Rule::Conjunction => inference.conjunction(),
+            Rule::Disjunction => inference.disjunction(),
+            Rule::Projection(side) => rules::projection(side, step, inference.first),
         }
     }
 }
@@ -245,9 +241,7 @@ fn read_field(
 fn read_step(bytes: &[u8; 136], n: u64) -> Result<Rule, StepRefusal>
     ensures { rule_reading result ≡ read_step n (rule_of (byte 0 bytes.now)) bytes.now }
 {
-    let Some(rule) = Rule::of(bytes[0]) else {
-        return Err(StepRefusal::Form);
-    };
+    let rule = Rule::of(bytes[0]).ok_or(StepRefusal::Form)?;
     let step = Step { rule, bytes };
     if !step.form() {
         return Err(StepRefusal::Form);
@@ -257,19 +251,17 @@ fn read_step(bytes: &[u8; 136], n: u64) -> Result<Rule, StepRefusal>
     Ok(rule)
 }
 
-// Step k of the derivation.
-fn check_step(derivation: &[u8], k: usize, book: Book<'_>) -> Result<(), StepRefusal>
-    requires { 136 * (k + 1) ≤ length derivation.now }
-    ensures { (l : Ledger) (f : Grant → Bool) → BookOf book.entry.ledger.now book.entry.sizes book.entry.counted l f → step_reading result ≡ check_at l f derivation.now k }
+// A step of the derivation, k being its number.
+fn check_step(book: Book<'_>, k: usize, bytes: &[u8; 136]) -> Result<(), StepRefusal>
+    ensures { (l : Ledger) (f : Grant → Bool) → BookOf book.entry.ledger.now book.entry.sizes book.entry.counted l f → step_reading result ≡ check_at l f book.entry.derivation.now k bytes.now }
 {
-    let bytes = whole_step(derivation, k);
     let rule = read_step(bytes, book.sizes.names)?;
     let step = Step { rule, bytes };
     if !step.premises_before(k) {
         return Err(StepRefusal::Premise);
     }
     step.check_grant(book)?;
-    if !step.meets(derivation, book) {
+    if !step.meets(book) {
         return Err(StepRefusal::Rule);
     }
     Ok(())
@@ -293,14 +285,12 @@ impl From<Refusal> for DerivationRefusal {
 }
 
 // The steps, one after another.
-// Kept: k is asked itself, for the premises before it and for the refusal, so that pieces with their numbers would be no plainer.
-fn check_steps(derivation: &[u8], book: Book<'_>) -> Result<(), DerivationRefusal>
-    requires { length derivation.now ≤ 8704 }
-    ensures { (l : Ledger) (f : Grant → Bool) → BookOf book.entry.ledger.now book.entry.sizes book.entry.counted l f → checked_of result ≡ check_steps l f derivation.now 0 (step_count derivation.now) }
+fn check_steps(book: Book<'_>) -> Result<(), DerivationRefusal>
+    requires { length book.derivation.now ≤ 8704 }
+    ensures { (l : Ledger) (f : Grant → Bool) → BookOf book.entry.ledger.now book.entry.sizes book.entry.counted l f → checked_of result ≡ check_steps l f book.entry.derivation.now 0 (step_count book.entry.derivation.now) }
 {
-    let steps = derivation.len() / 136;
-    for k in 0..steps {
-        check_step(derivation, k, book).map_err(|why| DerivationRefusal::Step(k as u8, why))?;
+    for (k, bytes) in book.derivation.as_chunks::<136>().0.iter().enumerate() {
+        check_step(book, k, bytes).map_err(|why| DerivationRefusal::Step(k as u8, why))?;
     }
     Ok(())
 }
@@ -330,14 +320,12 @@ pub fn check_derivation(
         day,
     };
     let counted = asked.counted();
-    check_steps(
+    check_steps(Book {
         derivation,
-        Book {
-            ledger,
-            sizes,
-            counted,
-        },
-    )
+        ledger,
+        sizes,
+        counted,
+    })
 }
 
 // The block of the grant that a step of an accepted derivation names, a part of the ledger, if there is such a step and its rule is that of a grant.

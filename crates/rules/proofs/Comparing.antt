@@ -1,11 +1,11 @@
 -- Lists compared byte for byte, part by part. Assumes nothing.
-use Rattle.std.proofs.Common.{◌≡◌, ℕ, ◌+◌, ◌-◌, ◌≤◌, Bool, false, ◌&&◌, List, [], ◌∷◌, ◌++◌, length, take, drop, get_or, refl, sym, ap, arith, one-add, nat_eq}
+use Rattle.std.proofs.Common.{◌≡◌, ◌∙◌, ℕ, ◌+◌, Bool, true, false, ◌&&◌, List, [], ◌∷◌, ◌++◌, length, take, drop, refl, sym, ap, nat_eq}
 use mathlib.Core.Bool.{and_assoc}
-use lib.Seq.{take_all}
+use Rattle.std.specs.Borrow.{Bor}
+use Rattle.std.specs.Option.{MatchOption}
+use Rattle.std.specs.Prelude.{Option, None, Some}
 use Rattle.std.specs.Cmp.Lexicographic.{pointwise}
 use Rattle.model.specs.Bytes.{same}
-use Rattle.model.proofs.Same.{same_elim}
-use Rattle.model.proofs.Truth.{false_of}
 
 -- what `==` of two slices computes
 pub same_pointwise : (l m : List ℕ) → pointwise nat_eq l m ≡ same l m
@@ -15,15 +15,6 @@ same_pointwise [] (y ∷ m) = refl
 same_pointwise (x ∷ l) [] = refl
 same_pointwise (x ∷ l) (y ∷ m) = ap (λ r. nat_eq x y && r) (same_pointwise l m)
 
--- the bytes are a code, then others
-pub code_first : (s a : List ℕ) (code : ℕ) → 1 ≤ length s → same s (code ∷ a) ≡ (nat_eq (get_or s 0 0) code && same (take (length s - 1) (drop 1 s)) a)
-unfolding same
-code_first [] a code h = absurd (omega arith)
-code_first (x ∷ s) a code h = rw (take_all (length (x ∷ s) - 1) s (omega arith))
-
-pub code_none : (s a : List ℕ) (code : ℕ) → length s ≤ length a → same s (code ∷ a) ≡ false
-code_none s a code h = false_of (same s (code ∷ a)) (λ e. let f : length s ≡ length (code ∷ a) = ap length (same_elim s (code ∷ a) e) in omega arith)
-
 -- a list compared with two that follow each other: its front with the first, the rest with the second
 pub same_parts : (l a b : List ℕ) → same l (a ++ b) ≡ (same (take (length a) l) a && same (drop (length a) l) b)
 unfolding same
@@ -31,6 +22,21 @@ same_parts l [] b = refl
 same_parts [] (x ∷ a) b = refl
 same_parts (y ∷ l) (x ∷ a) b = rw (same_parts l a b, and_assoc)
 
--- a code and a part at the front, then another part
-pub code_parts : (s a b front back : List ℕ) (code : ℕ) (p q : Bool) → front ≡ take (1 + length a) s → back ≡ drop (1 + length a) s → p ≡ same front (code ∷ a) → q ≡ same back b → (p && q) ≡ same s (code ∷ a ++ b)
-code_parts s a b front back code p q f g e h = rw (e, h, f, g, one-add) (sym (same_parts s (code ∷ a) b))
+-- what is left behind a front, if it is there, compared with a part
+abbrev pub Stripped : List ℕ → List ℕ → Option (Bor (List ℕ)) → Type 0
+Stripped l a r = MatchOption r (pointwise nat_eq (take (length a) l) a ≡ false) (λ x. (pointwise nat_eq (take (length a) l) a ≡ true) × (x.now ≡ drop (length a) l) × (length x.now + length a ≡ length l))
+
+-- then the whole is compared with the front and the part
+pub stripped : (l a b : List ℕ) (r : Option (Bor (List ℕ))) → Stripped l a r → (answer : Bool) (P : Bor (List ℕ) → Type 0) → MatchOption r (answer ≡ false) P
+    → ((x : Bor (List ℕ)) → P x → answer ≡ same x.now b) → answer ≡ same l (a ++ b)
+stripped l a b None none answer P e h = e ∙ sym (same_parts l a b ∙ rw (sym (same_pointwise (take (length a) l) a) ∙ none))
+stripped l a b (Some x) some answer P e h = h x e ∙ sym (same_parts l a b ∙ rw (sym (same_pointwise (take (length a) l) a) ∙ some.0, ← some.1))
+
+-- two fronts one behind the other, and then a part
+pub stripped_twice : (l a b m : List ℕ) (r : Option (Bor (List ℕ))) → Stripped l a r → (q : Option (Bor (List ℕ))) (Q : Bor (List ℕ) → Type 0) → MatchOption r (q ≡ None) Q
+    → ((x : Bor (List ℕ)) → Q x → Stripped x.now b q) → (answer : Bool) (P : Bor (List ℕ) → Type 0) → MatchOption q (answer ≡ false) P
+    → ((x : Bor (List ℕ)) → P x → answer ≡ same x.now m) → answer ≡ same l (a ++ (b ++ m))
+stripped_twice l a b m None none q Q e inner answer P f h =
+    stripped l a (b ++ m) None none answer (λ x. answer ≡ same x.now (b ++ m)) (rw e at f) (λ x g. g)
+stripped_twice l a b m (Some x) some q Q e inner answer P f h =
+    stripped l a (b ++ m) (Some x) some answer (λ x. answer ≡ same x.now (b ++ m)) (stripped x.now b m q (inner x e) answer P f h) (λ x g. g)

@@ -10,4 +10,4 @@ use Rattle.derivations.proofs.check_steps.Given as goal
 
 abbrev pub invariant-loop-k : goal.invariant-loop-k
 invariant-loop-k v =
-    (l : Ledger) (f : Grant → Bool) → BookOf v.book.ledger.now v.book.sizes v.book.counted l f → steps_from l f v.derivation v.k-counter ≡ check_steps l f v.derivation 0 (step_count v.derivation)
+    (l : Ledger) (f : Grant → Bool) → BookOf v.book.ledger.now v.book.sizes v.book.counted l f → steps_from l f v.book.derivation.now v.k-counter ≡ check_steps l f v.book.derivation.now 0 (step_count v.book.derivation.now)

@@ -1,13 +1,6 @@
-use Rattle.std.proofs.Common.{sym, arith}
-use borrow.Author.Tests.{eq-eqb, ne_eqb}
-use Rattle.rules.proofs.Comparing.{code_none, code_first}
+use Rattle.std.proofs.Common.{rules, ◌∷◌, []}
+use Rattle.rules.proofs.Comparing.{same_pointwise, stripped}
 use Rattle.rules.proofs.code_then.Goals as goal
 
-pub returns-in-empty : goal.returns-in-empty
-returns-in-empty c = sym (code_none c.args.s.now c.args.a.now c.args.code (omega arith))
-
-pub returns-then-first-code : goal.returns-then-first-code
-returns-then-first-code c = simp (code_first c.args.s.now c.args.a.now c.args.code c.in-len1-up.len_at_least, eq-eqb _ _ c.if-first-code.true) c.same.ensures
-
-pub returns-else-first-code : goal.returns-else-first-code
-returns-else-first-code c = simp (code_first c.args.s.now c.args.a.now c.args.code c.in-len1-up.len_at_least, ne_eqb _ _ c.if-first-code.false)
+pub returns : goal.returns
+returns c = stripped c.args.s.now (c.args.code ∷ []) c.args.a.now _ c.strip_prefix.ensures.cases _ _ c.is_some_and.ensures (λ x p. search (rules, same_pointwise))

@@ -189,10 +189,10 @@ fn sift_grant(asked: &Asked<'_>, k: usize, g: u64, of: Sifted) -> Sifted
 
 // Takes away those that break a counting grant. It ends where none is left.
 fn sift_grants(asked: &Asked<'_>, g: u64, of: Sifted) -> Sifted
-    ensures { asked.now.grants ≤ 64 → (f : Marks) → SiftedTo (counts_asked asked.now) f g of → SiftedTo (counts_asked asked.now) (λ s c. f s c && sound_asked asked.now s c) g result }
+    ensures { asked.now.sizes.grants ≤ 64 → (f : Marks) → SiftedTo (counts_asked asked.now) f g of → SiftedTo (counts_asked asked.now) (λ s c. f s c && sound_asked asked.now s c) g result }
 {
     let mut sifted = of;
-    for k in 0..asked.grants {
+    for k in 0..asked.sizes.grants {
         if words::none(sifted.left) {
             return sifted;
         }
@@ -255,8 +255,7 @@ fn ask(
     let mut grants = Grants {
         asked: Asked {
             ledger,
-            names,
-            grants: sizes.grants,
+            sizes,
             label,
             day,
         },

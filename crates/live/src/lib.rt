@@ -143,6 +143,7 @@ pub fn withdraw(
 }
 
 // A question: the refusals of p and of q, and no other; the answer is judged by the numbers.
+// Kept: relation, p and q go on as they came, as in `questions`.
 fn ask(
     relation: Relation,
     live: Live,
@@ -159,7 +160,7 @@ fn ask(
 }
 
 // Does p act for q?
-// Kept: a name for each of the two questions, over `ask`: with the relation as an argument each caller would name it.
+// Kept: document 01 has the two questions by their names, and so have its table of promises and C: each is `ask` at its relation.
 #[tactic(auto, unfolding(model::specs::Live::step))]
 pub fn acts_for(
     live: Live,

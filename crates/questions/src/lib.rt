@@ -265,7 +265,7 @@ fn ask(
 }
 
 // Does p act for q under the label, on the day?
-// Kept: a name for each of the two questions, over `ask`: with the relation as an argument each caller would name it.
+// Kept: document 01 has the two questions by their names, and so have its table of promises and C: each is `ask` at its relation.
 pub fn acts_for(
     ledger: &[u8],
     p: &[u8],

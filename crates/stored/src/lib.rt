@@ -89,6 +89,7 @@ impl Sieve for Zeros<'_> {
 }
 
 // The first refuter by the numbers: on the see side, else on the change side.
+// Kept: relation, n, p and q go on as they came, as in `questions`.
 pub fn judge(
     relation: Relation,
     numbers: &[u64; 896],

@@ -7,6 +7,7 @@ ghost use Rattle.words.specs.FourWords.{RowAt};
 ghost use Rattle.words.specs.Evaluation.{job_of, ClearTo};
 ghost use Rattle.counting.specs.Counted.{bars_at, heard_at, on_day, counts_at, counted_in, nothing_known, judged_at, NamesAt, NeededOf, ClearedTo};
 
+use ledgers::Sizes;
 use words::Row;
 
 // A number above each name of the term that the bytes from `at` on stand for, and at least `least`.
@@ -20,12 +21,11 @@ fn names_at(codes: &[u8], at: usize, least: u64) -> u64
         .fold(least, |most, code| most.max(*code as u64 + 1))
 }
 
-// A ledger of so many names and grants, and the label and the day that it is asked under.
+// A ledger, how many names and grants it has, and the label and the day that it is asked under.
 #[derive(Clone, Copy)]
 pub struct Asked<'a> {
     pub ledger: &'a [u8],
-    pub names: u64,
-    pub grants: usize,
+    pub sizes: Sizes,
     pub label: &'a [u8],
     pub day: u32,
 }
@@ -62,12 +62,12 @@ impl Asked<'_> {
     // How many of the names there is need to ask when grant k is judged: those up to the highest of the label, of the grant's label and of its q, and at least
     // eight, which have one row. The coalitions with further names only repeat what those without them say.
     fn names_needed(&self, k: usize) -> u64
-        ensures { NeededOf self.now.ledger.now self.now.names k self.now.label.now result }
+        ensures { NeededOf self.now.ledger.now self.now.sizes.names k self.now.label.now result }
     {
         let asked = names_at(self.label, 0, 8);
         let own = names_at(self.ledger, ledgers::term_place(k, ledgers::LABEL), asked);
         let all = names_at(self.ledger, ledgers::term_place(k, ledgers::Q), own);
-        self.names.min(all)
+        self.sizes.names.min(all)
     }
 
     // No coalition of n names in the rows from one to another bars grant k.
@@ -80,7 +80,7 @@ impl Asked<'_> {
 
     // The same in the rows after the first, of as many names as there is need to ask: where the first is clear, it tells whether grant k is heard.
     fn others_clear(&self, k: usize) -> bool
-        ensures { ClearTo (job_of self.now.names) (bars_at self.now.ledger.now self.now.label.now k) 1 → result ≡ heard_at self.now.ledger.now self.now.names self.now.label.now k }
+        ensures { ClearTo (job_of self.now.sizes.names) (bars_at self.now.ledger.now self.now.label.now k) 1 → result ≡ heard_at self.now.ledger.now self.now.sizes.names self.now.label.now k }
     {
         let names = self.names_needed(k);
         self.rows_clear(names, k, 1, words::row_count(names))
@@ -88,9 +88,10 @@ impl Asked<'_> {
 
     // Grant k is visible under the label, and spoken. The first row tells most grants that are not.
     fn heard(&self, k: usize) -> bool
-        ensures { result ≡ heard_at self.now.ledger.now self.now.names self.now.label.now k }
+        ensures { result ≡ heard_at self.now.ledger.now self.now.sizes.names self.now.label.now k }
     {
-        self.rows_clear(self.names, k, 0, 1) && (self.names <= 8 || self.others_clear(k))
+        self.rows_clear(self.sizes.names, k, 0, 1)
+            && (self.sizes.names <= 8 || self.others_clear(k))
     }
 
     // The day is within the days of grant k.
@@ -105,20 +106,20 @@ impl Asked<'_> {
 
     // Grant k counts under the label on the day. Its days are looked at first, which costs least.
     pub fn counts(&self, k: usize) -> bool
-        ensures { result ≡ counts_at self.now.ledger.now self.now.names self.now.label.now self.now.day k }
+        ensures { result ≡ counts_at self.now.ledger.now self.now.sizes.names self.now.label.now self.now.day k }
     {
         self.on_day(k) && self.heard(k)
     }
 
     // Bit k is set exactly if grant k counts. No ledger has more grants than 64.
     pub fn counted(&self) -> u64
-        ensures { result ≡ counted_in self.now.ledger.now self.now.names self.now.grants self.now.label.now self.now.day }
+        ensures { result ≡ counted_in self.now.ledger.now self.now.sizes.names self.now.sizes.grants self.now.label.now self.now.day }
     {
-        if 64 < self.grants {
+        if 64 < self.sizes.grants {
             return 0;
         }
         let mut counted: u64 = 0;
-        for k in (0..self.grants).rev() {
+        for k in (0..self.sizes.grants).rev() {
             counted = (counted << 1) | self.counts(k) as u64;
         }
         counted
@@ -126,7 +127,7 @@ impl Asked<'_> {
 
     // What is known once grant k, if it may count, is judged. It is judged once.
     pub fn judge(&self, k: usize, known: Known) -> Known
-        ensures { result ≡ judged_at (counts_at self.now.ledger.now self.now.names self.now.label.now self.now.day k) k known }
+        ensures { result ≡ judged_at (counts_at self.now.ledger.now self.now.sizes.names self.now.label.now self.now.day k) k known }
     {
         if !known.may_count(k) || !words::bit_set(known.unjudged, k) {
             return known;

@@ -314,8 +314,7 @@ pub fn check_derivation(
     }
     let asked = Asked {
         ledger,
-        names: sizes.names,
-        grants: sizes.grants,
+        sizes,
         label,
         day,
     };

@@ -7,7 +7,6 @@ ghost use Rattle.soundness.specs.Keeping.{sound_in};
 ghost use Rattle.extracts.specs.Halves.{paste_word, paste_row, blank, Halves};
 ghost use Rattle.extracts.specs.Results.{outcome_of};
 
-use counting::Asked;
 use refusals::Refusal;
 use soundness::Chosen;
 use words::Row;
@@ -33,13 +32,13 @@ fn put_row(half: &mut [u8], g: u64, row: Row)
 }
 
 // Marks in both halves, which are all 00 before, the coalitions that keep each grant whose bit is set.
-fn mark_sound(chosen: &Chosen<'_>, n: u64, see: &mut [u8], change: &mut [u8])
+fn mark_sound(chosen: &Chosen<'_>, see: &mut [u8], change: &mut [u8])
     requires { (see.old ≡ blank 512) × (change.old ≡ blank 512) }
-    ensures { Halves n (sound_in chosen.now.ledger.now chosen.now.grants chosen.now.bits) see.new change.new }
+    ensures { Halves chosen.now.sizes.names (sound_in chosen.now.ledger.now chosen.now.sizes.grants chosen.now.bits) see.new change.new }
 {
-    let rows = words::row_count(n);
+    let rows = words::row_count(chosen.sizes.names);
     for g in 0..rows {
-        let sound = chosen.sound_row(n, g);
+        let sound = chosen.sound_row(g);
         put_row(see, g, sound.see);
         put_row(change, g, sound.change);
     }
@@ -56,22 +55,9 @@ pub fn extract(ledger: &[u8], label: &[u8], day: u32, buffer: &mut [u8]) -> Resu
     if buffer.len() != 1024 {
         return Err(Refusal::ExtractLength);
     }
-    // Kept: what follows is the same in two calls, which need n and what is chosen: a pair of the two would be taken apart at once.
-    let sizes = ledgers::read_book(ledger, label)?;
-    let asked = Asked {
-        ledger,
-        names: sizes.names,
-        grants: sizes.grants,
-        label,
-        day,
-    };
-    let chosen = Chosen {
-        ledger,
-        grants: sizes.grants,
-        bits: asked.counted(),
-    };
+    let chosen = Chosen::counting(ledger, label, day)?;
     buffer.fill(0);
     let (see, change) = buffer.split_at_mut(512);
-    mark_sound(&chosen, sizes.names, see, change);
+    mark_sound(&chosen, see, change);
     Ok(())
 }

@@ -6,9 +6,8 @@ use Prim.Native.Nat.{ℕ, suc, ◌+◌, ◌-◌, ◌*◌, ◌≤◌, ◌<◌}
 use native.Mathlib.Omega.{arith}
 use lib.ListN.{length, take, drop, get_or, length-append, length-take, length-drop}
 use borrow.Author.Tests.{lt-ltb}
-use Rattle.model.specs.Bytes.{field}
 use Rattle.model.specs.Readings.{accepted, refused}
-use Rattle.model.specs.Grants.{Grant, Under, under}
+use Rattle.model.specs.Grants.{Grant, Under}
 use Rattle.model.specs.Ledgers.{read_block, ledger_of}
 use Rattle.model.specs.Answers as model
 use Rattle.model.specs.Live as model_live
@@ -24,13 +23,21 @@ use Rattle.refusals.specs.declared.Refusal.TheVariants.{Full, NoGrant}
 use Rattle.refusals.specs.Numbers.{refusal_number}
 use Rattle.refusals.specs.Results.{done}
 use Rattle.refusals.proofs.Results.{done_refused}
+use Rattle.ledgers.specs.declared.Sizes.{Sizes}
+use Rattle.counting.specs.declared.Asked.{Asked}
 use Rattle.counting.specs.Counted.{grant_in}
 use Rattle.counting.proofs.Standing.{no_grant, grant_in_lem}
 use Rattle.blocks.specs.Front.{end_of, Kept, Rewritten}
-use Rattle.stored.specs.Stored.{more, Stored, Small}
+use Rattle.stored.specs.Stored.{more, Stored, Small, under_asked}
 use Rattle.stored.proofs.Storing.{stored_cong}
 use Rattle.live.specs.declared.Live.{Live}
-use Rattle.live.specs.Held.{Holds, Stepped}
+use Rattle.live.specs.Held.{AskedOf, Holds, Stepped}
+
+-- ---- what is asked
+
+-- it is asked of the head's number of names
+pub names_asked : (live : Live) (part : List ℕ) (grants : ℕ) (asked : Asked) → AskedOf live part grants asked → asked.sizes.names ≡ live.names
+names_asked live part grants asked a = ap (λ (s : Sizes). s.names) a.sizes
 
 -- ---- what is held
 
@@ -46,10 +53,10 @@ module _ (live : Live) (ledger planes : List ℕ) (x : model_live.Live) (h : Hol
   job_live = job_is live.names kept_live.names ∙ h.names
 
   -- what the grants are judged under
-  pub asked_live : (part : List ℕ) → part ≡ field 0 live.codes live.label → under (job_of live.names) (term_in part) live.day ≡ x.asked
-  asked_live part e =
-      let label : term_in part ≡ x.asked.label = ap term_in (e ∙ h.label) ∙ term_in_lem x.asked.names x.label x.asked.label h.good.label_read in
-      rw (job_live, label, h.day)
+  pub asked_live : (part : List ℕ) (grants : ℕ) (asked : Asked) → AskedOf live part grants asked → under_asked asked ≡ x.asked
+  asked_live part grants asked a =
+      let label : term_in asked.label.now ≡ x.asked.label = ap term_in (a.label ∙ h.label) ∙ term_in_lem x.asked.names x.label x.asked.label h.good.label_read in
+      rw (a.sizes, a.day, job_live, label, h.day)
 
   pub small_live : Small x.numbers
   small_live s c = let m = numbers_most x h.good s c in omega (arith, m.0, m.1)

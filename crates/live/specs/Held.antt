@@ -1,5 +1,6 @@
 -- How a live ledger is held, in its head, its bytes and its numbers, and what a call does to them (document 02, K5). Assumes nothing: these are definitions.
 use Rattle.std.specs.Prelude.{◌≡◌, List, [], ℕ, Result, Ok, Err, length, take, drop}
+use Rattle.model.specs.Bytes.{field}
 use Rattle.model.specs.Readings.{accepted, refused}
 use Rattle.model.specs.Terms.{Term}
 use Rattle.model.specs.Answers as model
@@ -8,6 +9,7 @@ use Rattle.model.specs.Live.{make, acts_for_live, flows_to_live, Call, step, Goo
 use Rattle.questions.specs.declared.Relation.{Relation}
 use Rattle.questions.specs.declared.Relation.TheVariants.{ActsFor, FlowsTo}
 use Rattle.blocks.specs.Front.{end_of, Kept}
+use Rattle.counting.specs.declared.Asked.{Asked}
 use Rattle.stored.specs.Stored.{Stored}
 use Rattle.live.specs.declared.Live.{Live}
 use Rattle.refusals.specs.declared.Refusal.{Refusal}
@@ -17,6 +19,13 @@ use Rattle.refusals.specs.Numbers.{refusal_number}
 abbrev pub live_of : Relation → model_live.Live → Term → Term → model.Answer
 live_of ActsFor = acts_for_live
 live_of FlowsTo = flows_to_live
+
+-- What is asked is asked of a ledger of so many grants, under what the head has.
+pub record AskedOf (live : Live) (ledger : List ℕ) (grants : ℕ) (asked : Asked) : Type 0 where
+  pub ledger_is : asked.ledger.now ≡ ledger
+  pub sizes : asked.sizes ≡ record { names = live.names; grants = grants }
+  pub label : asked.label.now ≡ field 0 live.codes live.label
+  pub day : asked.day ≡ live.day
 
 -- A head, bytes and numbers hold a live ledger: the bytes begin with its written ledger, and all 896 words are those of its numbers.
 pub record Holds (live : Live) (ledger planes : List ℕ) (x : model_live.Live) : Type 0 where

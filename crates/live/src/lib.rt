@@ -9,9 +9,10 @@ ghost use Rattle.model.specs.Live as model;
 ghost use Rattle.model.specs.Live.{ask_live, add, withdraw, ask_acts_for, ask_flows_to, step};
 ghost use Rattle.questions.specs.Answers.{answer_of};
 ghost use Rattle.refusals.specs.declared.Refusal.{Refusal};
-ghost use Rattle.live.specs.Held.{live_of, Holds, Stepped, Unaltered, Made};
+ghost use Rattle.live.specs.Held.{live_of, AskedOf, Holds, Stepped, Unaltered, Made};
 
 use counting::Asked;
+use ledgers::Sizes;
 use questions::{Refuter, Relation};
 use refusals::Refusal;
 
@@ -35,6 +36,21 @@ impl Live {
         ensures { result.now ≡ field 0 self.now.codes self.now.label }
     {
         fields::part(&self.label, 0, self.codes)
+    }
+
+    // What its grants are judged under: a written ledger of so many grants, and the label and the day.
+    fn asked<'a>(&'a self, ledger: &'a [u8], grants: usize) -> Asked<'a>
+        ensures { AskedOf self.now ledger.now grants result }
+    {
+        Asked {
+            ledger,
+            sizes: Sizes {
+                names: self.names as u64,
+                grants,
+            },
+            label: self.label(),
+            day: self.day,
+        }
     }
 }
 
@@ -94,13 +110,7 @@ pub fn add(
     }
     blocks::append(ledger, live.names, live.held, block);
     let written = fields::part(&ledger[..], 0, 512 * (live.held + 2));
-    let asked = Asked {
-        ledger: written,
-        names: live.names as u64,
-        grants: live.held + 1,
-        label: live.label(),
-        day: live.day,
-    };
+    let asked = live.asked(written, live.held + 1);
     stored::count_in(numbers, &asked, live.held);
     Ok(Live {
         held: live.held + 1,
@@ -123,13 +133,7 @@ pub fn withdraw(
         return Err(Refusal::NoGrant);
     }
     let written = fields::part(&ledger[..], 0, 512 * (live.held + 1));
-    let asked = Asked {
-        ledger: written,
-        names: live.names as u64,
-        grants: live.held,
-        label: live.label(),
-        day: live.day,
-    };
+    let asked = live.asked(written, live.held);
     stored::count_out(numbers, &asked, k);
     blocks::remove(ledger, live.names, live.held, k);
     Ok(Live {
@@ -139,6 +143,7 @@ pub fn withdraw(
 }
 
 // A question: the refusals of p and of q, and no other; the answer is judged by the numbers.
+// Kept: relation, p and q go on as they came, as in `questions`.
 fn ask(
     relation: Relation,
     live: Live,
@@ -155,7 +160,7 @@ fn ask(
 }
 
 // Does p act for q?
-// Kept: a name for each of the two questions, over `ask`: with the relation as an argument each caller would name it.
+// Kept: document 01 has the two questions by their names, and so have its table of promises and C: each is `ask` at its relation.
 #[tactic(auto, unfolding(model::specs::Live::step))]
 pub fn acts_for(
     live: Live,

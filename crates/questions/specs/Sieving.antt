@@ -15,14 +15,14 @@ EverySound S = (s : Side) (c : ℕ) → S s c ≡ true
 
 -- the grants that count, and the coalitions that keep them
 abbrev pub counts_asked : Asked → ℕ → Bool
-counts_asked a = counts_at a.ledger.now a.names a.label.now a.day
+counts_asked a = counts_at a.ledger.now a.sizes.names a.label.now a.day
 
 abbrev pub sound_asked : Asked → Marks
-sound_asked a = sound_in a.ledger.now a.grants (counted_in a.ledger.now a.names a.grants a.label.now a.day)
+sound_asked a = sound_in a.ledger.now a.sizes.grants (counted_in a.ledger.now a.sizes.names a.sizes.grants a.label.now a.day)
 
 -- S are the sound coalitions of what is asked, and what is known of its grants is so
 pub record SoundAsked (a : Asked) (known : Known) (S : Marks) : Type 0 where
-  pub few : a.grants ≤ 64
+  pub few : a.sizes.grants ≤ 64
   pub is : (s : Side) (c : ℕ) → S s c ≡ sound_asked a s c
   pub so : KnownOf (counts_asked a) known
 

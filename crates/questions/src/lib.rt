@@ -189,10 +189,10 @@ fn sift_grant(asked: &Asked<'_>, k: usize, g: u64, of: Sifted) -> Sifted
 
 // Takes away those that break a counting grant. It ends where none is left.
 fn sift_grants(asked: &Asked<'_>, g: u64, of: Sifted) -> Sifted
-    ensures { asked.now.grants ≤ 64 → (f : Marks) → SiftedTo (counts_asked asked.now) f g of → SiftedTo (counts_asked asked.now) (λ s c. f s c && sound_asked asked.now s c) g result }
+    ensures { asked.now.sizes.grants ≤ 64 → (f : Marks) → SiftedTo (counts_asked asked.now) f g of → SiftedTo (counts_asked asked.now) (λ s c. f s c && sound_asked asked.now s c) g result }
 {
     let mut sifted = of;
-    for k in 0..asked.grants {
+    for k in 0..asked.sizes.grants {
         if words::none(sifted.left) {
             return sifted;
         }
@@ -255,8 +255,7 @@ fn ask(
     let mut grants = Grants {
         asked: Asked {
             ledger,
-            names,
-            grants: sizes.grants,
+            sizes,
             label,
             day,
         },
@@ -266,7 +265,7 @@ fn ask(
 }
 
 // Does p act for q under the label, on the day?
-// Kept: a name for each of the two questions, over `ask`: with the relation as an argument each caller would name it.
+// Kept: document 01 has the two questions by their names, and so have its table of promises and C: each is `ask` at its relation.
 pub fn acts_for(
     ledger: &[u8],
     p: &[u8],

@@ -1,3 +1,4 @@
 -- What the promises of this crate cite.
+pub mod Choosing
 pub mod Keeping
 pub mod Testing

@@ -7,9 +7,13 @@ ghost use Rattle.model.specs.Coalitions.{Marks, mark, packed};
 ghost use Rattle.model.specs.Grants.{marks_of};
 ghost use Rattle.words.specs.FourWords.{side_of, RowAt, RowsAt};
 ghost use Rattle.counting.specs.Counted.{grant_in};
+ghost use Rattle.soundness.specs.Choosing.{choice_reading, counting_read};
 ghost use Rattle.soundness.specs.Keeping.{breaks, sound_in};
 ghost use Rattle.soundness.specs.Testing.{tested_of, test_in, TestedTo};
 
+use counting::Asked;
+use ledgers::Sizes;
+use refusals::Refusal;
 use words::{Row, Rows, Side};
 
 // Those of two rows that break grant k: they hold its p and not its q. Where none holds its p there is no need of q.
@@ -61,22 +65,40 @@ pub struct Tested {
     pub tested: usize,
 }
 
-// A ledger of so many grants, of which those whose bits are set are kept.
+// A ledger of these sizes, of whose grants those whose bits are set are kept.
 #[derive(Clone, Copy)]
 pub struct Chosen<'a> {
     pub ledger: &'a [u8],
-    pub grants: usize,
+    pub sizes: Sizes,
     pub bits: u64,
 }
 
-impl Chosen<'_> {
+impl<'a> Chosen<'a> {
+    // Reads a ledger, and the label that it is asked under: chosen are the grants that count, on the day.
+    pub fn counting(ledger: &'a [u8], label: &[u8], day: u32) -> Result<Chosen<'a>, Refusal>
+        ensures { choice_reading result ≡ counting_read ledger.now label.now day }
+    {
+        let sizes = ledgers::read_book(ledger, label)?;
+        let asked = Asked {
+            ledger,
+            sizes,
+            label,
+            day,
+        };
+        Ok(Chosen {
+            ledger,
+            sizes,
+            bits: asked.counted(),
+        })
+    }
+
     // Tests the coalitions of two rows against these grants. Each is dropped at the first that it breaks, and the test ends where none is left.
     fn test_rows(&self, g: u64, of: Rows) -> Kept
-        ensures { (f : Marks) → RowsAt f g of → TestedTo self.now.ledger.now self.now.grants self.now.bits f g result }
+        ensures { (f : Marks) → RowsAt f g of → TestedTo self.now.ledger.now self.now.sizes.grants self.now.bits f g result }
     {
         let mut rows = of;
         let mut tested: usize = 0;
-        for k in 0..self.grants {
+        for k in 0..self.sizes.grants {
             if words::none(rows) {
                 return Kept { tested, rows };
             }
@@ -88,17 +110,17 @@ impl Chosen<'_> {
         Kept { tested, rows }
     }
 
-    // Row g of the coalitions of n names that keep each of these grants: the sound ones, where these are the grants that count.
-    pub fn sound_row(&self, n: u64, g: u64) -> Rows
-        ensures { RowsAt (λ s. mark n (sound_in self.now.ledger.now self.now.grants self.now.bits s)) g result }
+    // Row g of the coalitions of its names that keep each of these grants: the sound ones, where these are the grants that count.
+    pub fn sound_row(&self, g: u64) -> Rows
+        ensures { RowsAt (λ s. mark self.now.sizes.names (sound_in self.now.ledger.now self.now.sizes.grants self.now.bits s)) g result }
     {
-        let all = words::alike(words::low_row(n, g));
+        let all = words::alike(words::low_row(self.sizes.names, g));
         self.test_rows(g, all).rows
     }
 
     // Tests a coalition on a side against these grants, up to the first that it breaks there (document 02, K3).
     pub fn test_coalition(&self, side: Side, c: u64) -> Tested
-        ensures { tested_of result ≡ test_in self.now.ledger.now self.now.grants self.now.bits (side_of side) c }
+        ensures { tested_of result ≡ test_in self.now.ledger.now self.now.sizes.grants self.now.bits (side_of side) c }
     {
         let alone = words::sided(side, only_row(c), words::same(0));
         let kept = self.test_rows(c / 256, alone);

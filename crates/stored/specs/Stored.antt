@@ -49,4 +49,4 @@ pub record SoundStored (planes : List ℕ) (S : Marks) : Type 0 where
 
 -- the label and the day that a ledger is asked under
 abbrev pub under_asked : Asked → Under
-under_asked a = under (job_of a.names) (term_in a.label.now) a.day
+under_asked a = under (job_of a.sizes.names) (term_in a.label.now) a.day

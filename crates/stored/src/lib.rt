@@ -33,11 +33,11 @@ fn count<F: Fn(&mut [u64; 896], usize, Row)>(
     step: F,
 )
     requires { F.IsAlwaysCallable step }
-    ensures { (f h : Numbers) → Steps (λ x row marked y. F.post step x row marked tt y) asked.now.names (breaks_counting (under_asked asked.now) (grant_in asked.now.ledger.now k)) f h → Stored asked.now.names numbers.old f → Stored asked.now.names numbers.new h }
+    ensures { (f h : Numbers) → Steps (λ x row marked y. F.post step x row marked tt y) asked.now.sizes.names (breaks_counting (under_asked asked.now) (grant_in asked.now.ledger.now k)) f h → Stored asked.now.sizes.names numbers.old f → Stored asked.now.sizes.names numbers.new h }
 {
     if asked.counts(k) {
-        for g in 0..words::row_count(asked.names) {
-            let gone = breaking(asked.ledger, asked.names, k, g);
+        for g in 0..words::row_count(asked.sizes.names) {
+            let gone = breaking(asked.ledger, asked.sizes.names, k, g);
             let at = g as usize;
             step(numbers, at, gone.see);
             step(numbers, 16 + at, gone.change);
@@ -47,14 +47,14 @@ fn count<F: Fn(&mut [u64; 896], usize, Row)>(
 
 // Grant k's part is added, if it counts.
 pub fn count_in(numbers: &mut [u64; 896], asked: &Asked<'_>, k: usize)
-    ensures { (f : Numbers) → Stored asked.now.names numbers.old f → Stored asked.now.names numbers.new (more f (breaks_counting (under_asked asked.now) (grant_in asked.now.ledger.now k))) }
+    ensures { (f : Numbers) → Stored asked.now.sizes.names numbers.old f → Stored asked.now.sizes.names numbers.new (more f (breaks_counting (under_asked asked.now) (grant_in asked.now.ledger.now k))) }
 {
     count(numbers, asked, k, planes::raise)
 }
 
 // And taken away, if it counts.
 pub fn count_out(numbers: &mut [u64; 896], asked: &Asked<'_>, k: usize)
-    ensures { (f : Numbers) → Stored asked.now.names numbers.old (more f (breaks_counting (under_asked asked.now) (grant_in asked.now.ledger.now k))) → Stored asked.now.names numbers.new f }
+    ensures { (f : Numbers) → Stored asked.now.sizes.names numbers.old (more f (breaks_counting (under_asked asked.now) (grant_in asked.now.ledger.now k))) → Stored asked.now.sizes.names numbers.new f }
 {
     count(numbers, asked, k, planes::lower)
 }
@@ -89,6 +89,7 @@ impl Sieve for Zeros<'_> {
 }
 
 // The first refuter by the numbers: on the see side, else on the change side.
+// Kept: relation, n, p and q go on as they came, as in `questions`.
 pub fn judge(
     relation: Relation,
     numbers: &[u64; 896],

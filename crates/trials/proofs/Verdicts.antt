@@ -10,11 +10,10 @@ use Rattle.model.specs.Dates.{real_date}
 use Rattle.model.specs.Ledgers.{read_book}
 use Rattle.model.specs.Testing as model
 use Rattle.model.proofs.Stands.{ledger_stands}
-use Rattle.ledgers.proofs.Accepted.{AcceptedBook}
-use Rattle.counting.specs.Counted.{counted_in}
+use Rattle.soundness.specs.declared.Chosen.{Chosen}
 use Rattle.soundness.specs.declared.Tested.{Tested}
 use Rattle.soundness.specs.Testing.{tested_of, test_in}
-use Rattle.soundness.proofs.Accepted.{test-counted}
+use Rattle.soundness.proofs.Accepted.{ChosenCounting, test_chosen}
 use Rattle.soundness.proofs.Testing.{tested_few}
 use Rattle.trials.specs.Figures.{test_on}
 
@@ -29,12 +28,12 @@ module _ (ledger label : List ℕ) (day : ℕ) (s : Side) (c : ℕ) where
     book_refused r e = rw (real, e)
 
     -- nothing is refused
-    module _ (n grants counted : ℕ) (b : AcceptedBook ledger label n grants) (t : Tested) (is : counted ≡ counted_in ledger n grants label day) (e : tested_of t ≡ test_in ledger grants counted s c) where
+    module _ (chosen : Chosen) (h : ChosenCounting ledger label day chosen) (t : Tested) (e : tested_of t ≡ test_in chosen.ledger.now chosen.sizes.grants chosen.bits s c) where
       pub tested_on : accepted (tested_of t) ≡ test_on ledger label day s c
       unfolding test_on
-      tested_on = rw (real, b.is day) (ap accepted (e ∙ test-counted ledger label day n grants counted b.book b.L b.of b.label_is is s c))
+      tested_on = rw (real, h.book.is day) (ap accepted (e ∙ test_chosen ledger label day chosen h s c))
 
       -- a ledger has at most 64 grants
       pub tested_fits : t.tested ≤ 64
       tested_fits =
-          omega (arith, ap (λ (x : model.Tested). x.tested) e, tested_few ledger grants counted s c, b.of.count, (ledger_stands ledger b.book b.of.is).count_most)
+          omega (arith, ap (λ (x : model.Tested). x.tested) e, tested_few chosen.ledger.now chosen.sizes.grants chosen.bits s c, h.book.of.count, (ledger_stands ledger h.book.book h.book.of.is).count_most)

@@ -11,7 +11,6 @@ ghost use Rattle.model.specs.Notation.{read_text, write_term};
 ghost use Rattle.words.specs.FourWords.{side_of};
 ghost use Rattle.trials.specs.Figures.{sum_number, tested_reading, test_on, side_numbered, test_number};
 
-use counting::Asked;
 use refusals::Refusal;
 use soundness::{Chosen, Tested};
 use words::Side;
@@ -66,20 +65,7 @@ fn test_on(
     if !dates::real_date(day) {
         return Err(Refusal::NotReal);
     }
-    // Kept: what follows is the same in two calls, which need n and what is chosen: a pair of the two would be taken apart at once.
-    let sizes = ledgers::read_book(ledger, label)?;
-    let asked = Asked {
-        ledger,
-        names: sizes.names,
-        grants: sizes.grants,
-        label,
-        day,
-    };
-    let chosen = Chosen {
-        ledger,
-        grants: sizes.grants,
-        bits: asked.counted(),
-    };
+    let chosen = Chosen::counting(ledger, label, day)?;
     Ok(chosen.test_coalition(side, coalition))
 }
 

@@ -7,12 +7,11 @@ use Rattle.model.specs.Questions.{sound_under}
 use Rattle.model.specs.Extracts.{table}
 use Rattle.model.proofs.Table.{table_cong}
 use Rattle.std.proofs.lemmas.Result.{err_from_is_err_and}
-use Rattle.ledgers.proofs.Accepted.{AcceptedBook, accepted_book, refused_book}
-use Rattle.soundness.proofs.Accepted.{sound-counted}
+use Rattle.soundness.proofs.Accepted.{ChosenCounting, chosen_accepted, chosen_refused, sound_chosen}
 use Rattle.extracts.specs.Halves.{blank}
 use Rattle.extracts.proofs.Outcomes.{halves_table, day_refused, size_refused, book_refused, table-written}
 use Rattle.extracts.proofs.extract.Goals as goal
-use Rattle.extracts.proofs.extract.Goals.{Else-buffer-ne1024, In_ok-sizes}
+use Rattle.extracts.proofs.extract.Goals.{Else-buffer-ne1024, In_ok-chosen}
 
 pub returns-then-not-real_date : goal.returns-then-not-real_date
 returns-then-not-real_date c = day_refused _ _ _ _ (sym c.real_date.ensures ∙ c.if-not-real_date.true)
@@ -30,16 +29,16 @@ real c = sym c.real_date.ensures ∙ c.if-not-real_date.false
 fits : (c : Else-buffer-ne1024) → length c.args.buffer.now ≡ 1024
 fits c = omega arith
 
-pub returns-in_err-sizes : goal.returns-in_err-sizes
-returns-in_err-sizes c =
+pub returns-in_err-chosen : goal.returns-in_err-chosen
+returns-in_err-chosen c =
     let a = c.args in
-    let s = (goal.at.returns-in_err-sizes c).Else-buffer-ne1024 in
+    let s = (goal.at.returns-in_err-chosen c).Else-buffer-ne1024 in
     let p = err_from_is_err_and c.from_residual.result c.from_residual.ensures.1 in
-    rw (p.1, p.2) (book_refused a.ledger.now a.label.now a.day a.buffer.now (real s) (fits s) _ (refused_book _ _ a.day _ (c.read_book.ensures a.day) _ c.in_err-sizes.was))
+    rw (p.1, p.2) (book_refused a.ledger.now a.label.now a.day a.buffer.now (real s) (fits s) _ (chosen_refused _ _ _ _ c.counting.ensures _ c.in_err-chosen.was))
 
 -- nothing can be refused any more
-book_of : (c : In_ok-sizes) → AcceptedBook c.args.ledger.now c.args.label.now c.in_ok-sizes.sizes.names c.in_ok-sizes.sizes.grants
-book_of c = accepted_book _ _ c.args.day _ (c.read_book.ensures c.args.day) _ c.in_ok-sizes.was
+counting : (c : In_ok-chosen) → ChosenCounting c.args.ledger.now c.args.label.now c.args.day c.in_ok-chosen.chosen
+counting c = chosen_accepted _ _ _ _ c.counting.ensures _ c.in_ok-chosen.was
 
 -- both halves are 00 before they are marked
 pub mark_sound-requires : goal.mark_sound-requires
@@ -54,9 +53,10 @@ pub returns : goal.returns
 returns c =
     let a = c.args in
     let s = (goal.at.returns c).Else-buffer-ne1024 in
-    let b = book_of (goal.at.returns c).In_ok-sizes in
-    let n = c.in_ok-sizes.sizes.names in
+    let h = counting (goal.at.returns c).In_ok-chosen in
+    let b = h.book in
+    let n = c.in_ok-chosen.chosen.sizes.names in
     table-written a.ledger.now a.label.now a.day a.buffer.now (real s) (fits s) b.book (under n b.L a.day) _ (b.is a.day)
     (halves_table c.mark_sound.ensures
-    ∙ table_cong _ _ _ (λ s d _. sound-counted _ _ _ _ _ _ _ b.L b.of b.label_is c.counted.ensures s d)
+    ∙ table_cong _ _ _ (λ s d _. sound_chosen _ _ _ _ h s d)
     ∙ ap (λ (m : ℕ). table m (sound_under b.book (under n b.L a.day))) b.of.names)

@@ -12,11 +12,11 @@ use Rattle.extracts.proofs.mark_sound.Goals.{In-loop-g}
 
 pub loop-g-init : goal.loop-g-init
 loop-g-init c =
-    ((ap length c.requires.0, ap length c.requires.1), filled_start c.args.n _ c.args.see.now c.args.change.now c.requires.0 c.requires.1)
+    ((ap length c.requires.0, ap length c.requires.1), filled_start c.args.chosen.now.sizes.names _ c.args.see.now c.args.change.now c.requires.0 c.requires.1)
 
 -- there are 16 rows at most
 few : (c : In-loop-g) → c.loop-g.g < 16
-few c = omega (arith, c.row_count-rows.ensures, rows_few c.args.n)
+few c = omega (arith, c.row_count-rows.ensures, rows_few c.args.chosen.now.sizes.names)
 
 pub put_row-requires : goal.put_row-requires
 put_row-requires c =
@@ -30,19 +30,20 @@ pub loop-g-preserved : goal.loop-g-preserved
 loop-g-preserved c =
     let l = c.loop-g in
     let a = c.args in
-    let S = sound_in a.chosen.now.ledger.now a.chosen.now.grants a.chosen.now.bits in
+    let n = a.chosen.now.sizes.names in
+    let S = sound_in a.chosen.now.ledger.now a.chosen.now.sizes.grants a.chosen.now.bits in
     let h = few (goal.at.loop-g-preserved c).In-loop-g in (
       (
         turn_length l.see c.put_row.new.half l.g c.sound_row-sound.result.see h c.put_row.ensures l.invariant.0.0,
         turn_length l.change c.put_row-in-loop-g.new.half l.g c.sound_row-sound.result.change h c.put_row-in-loop-g.ensures l.invariant.0.1,
       ),
       record {
-        see_half = turn_half l.see c.put_row.new.half l.g c.sound_row-sound.result.see h c.put_row.ensures (mark a.n (S confidentiality)) (c.sound_row-sound.ensures.row confidentiality) l.invariant.1.see_half;
-        change_half = turn_half l.change c.put_row-in-loop-g.new.half l.g c.sound_row-sound.result.change h c.put_row-in-loop-g.ensures (mark a.n (S integrity)) (c.sound_row-sound.ensures.row integrity) l.invariant.1.change_half;
+        see_half = turn_half l.see c.put_row.new.half l.g c.sound_row-sound.result.see h c.put_row.ensures (mark n (S confidentiality)) (c.sound_row-sound.ensures.row confidentiality) l.invariant.1.see_half;
+        change_half = turn_half l.change c.put_row-in-loop-g.new.half l.g c.sound_row-sound.result.change h c.put_row-in-loop-g.ensures (mark n (S integrity)) (c.sound_row-sound.ensures.row integrity) l.invariant.1.change_half;
       },
     )
 
 pub returns : goal.returns
 returns c =
     let l = c.loop-g in
-    filled_end c.args.n _ l.g l.see l.change (omega (arith, c.row_count-rows.ensures)) l.invariant.1
+    filled_end c.args.chosen.now.sizes.names _ l.g l.see l.change (omega (arith, c.row_count-rows.ensures)) l.invariant.1

@@ -8,4 +8,4 @@ use Rattle.extracts.proofs.mark_sound.Given as goal
 abbrev pub invariant-loop-g : goal.invariant-loop-g
 invariant-loop-g l =
     ((length l.see ≡ 512) × (length l.change ≡ 512))
-    × Filled l.n (sound_in l.chosen.ledger.now l.chosen.grants l.chosen.bits) l.g l.see l.change
+    × Filled l.chosen.sizes.names (sound_in l.chosen.ledger.now l.chosen.sizes.grants l.chosen.bits) l.g l.see l.change

@@ -1,18 +1,15 @@
-use mathlib.Core.Path.{◌≡◌, subst}
+use mathlib.Core.Path.{◌≡◌, ◌∙◌, subst}
 use Prim.Native.Nat.{◌<◌}
 use native.Mathlib.Omega.{arith}
 use Rattle.std.proofs.lemmas.Result.{err_from_is_err_and}
 use Rattle.model.specs.Coalitions.{Marks}
-use Rattle.model.specs.Grants.{under}
 use Rattle.model.specs.Ledgers.{read_block}
 use Rattle.model.specs.Live.{breaks_counting}
 use Rattle.model.proofs.Live.{block_read}
 use Rattle.refusals.proofs.Results.{Accepted, done_accepted}
-use Rattle.words.specs.AnyBytes.{term_in}
-use Rattle.words.specs.Evaluation.{job_of}
 use Rattle.counting.specs.Counted.{grant_in}
-use Rattle.stored.specs.Stored.{more, Stored}
-use Rattle.live.proofs.Stepping.{part_is, kept_live, stored_live, asked_live, add_refused, add_full, new_grant, add_done}
+use Rattle.stored.specs.Stored.{more, Stored, under_asked}
+use Rattle.live.proofs.Stepping.{names_asked, part_is, kept_live, stored_live, asked_live, add_refused, add_full, new_grant, add_done}
 use Rattle.live.proofs.add.Goals as goal
 use Rattle.live.proofs.add.Goals.{In_ok-read_block}
 
@@ -36,6 +33,11 @@ returns-clause-stepped c x h =
     let g = new (goal.at.returns-clause-stepped c).In_ok-read_block in
     let room : a.live.held < 64 = omega (arith, c.if-live-ge64.false) in
     let rewritten = c.append.ensures x.blocks (kept_live _ _ _ x h) h.held room (block_read _ _ g.value g.is).size in
-    let part' : breaks_counting (under (job_of a.live.names) (term_in c.label.result.now) a.live.day) (grant_in c.part-written.result.now a.live.held) ≡ breaks_counting x.asked g.value =
-    part_is _ _ _ _ (asked_live _ _ _ x h _ c.label.ensures) (new_grant _ _ _ _ x h g.value g.is room _ rewritten _ c.part-written.ensures) in
-    add_done _ _ _ _ x h g.value g.is room _ rewritten _ (subst (λ (m : Marks). Stored a.live.names c.count_in.new.numbers (more x.numbers m)) part' (c.count_in.ensures x.numbers (stored_live _ _ _ x h)))
+    let asked = c.asked-asked.result in
+    let of = c.asked-asked.ensures in
+    let part' : breaks_counting (under_asked asked) (grant_in asked.ledger.now a.live.held) ≡ breaks_counting x.asked g.value =
+    part_is _ _ _ _ (asked_live _ _ _ x h _ _ _ of) (new_grant _ _ _ _ x h g.value g.is room _ rewritten _ (of.ledger_is ∙ c.part-written.ensures)) in
+    let names : asked.sizes.names ≡ a.live.names = names_asked _ _ _ _ of in
+    let before : Stored asked.sizes.names a.numbers.now x.numbers = rw names (stored_live _ _ _ x h) in
+    add_done _ _ _ _ x h g.value g.is room _ rewritten _
+    (rw names at (subst (λ (m : Marks). Stored asked.sizes.names c.count_in.new.numbers (more x.numbers m)) part' (c.count_in.ensures x.numbers before)))

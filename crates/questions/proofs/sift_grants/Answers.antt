@@ -20,5 +20,5 @@ loop-k-preserved c =
 pub returns : goal.returns
 returns c b f h =
     let i = c.loop-k.invariant in
-    let e : c.loop-k.k ≡ c.args.asked.now.grants = omega arith in
+    let e : c.loop-k.k ≡ c.args.asked.now.sizes.grants = omega arith in
     rw e at (i.1 b f h)

@@ -18,8 +18,8 @@ loop-g-preserved t c f h d e =
     let l = c.loop-g in
     let gone = c.breaking-gone.ensures in
     let counts : counts_under (under_asked a) (grant_in a.ledger.now c.args.k) ≡ true = rw c.counts.ensures at c.if-counts.true in
-    let own = part (under_asked a) (grant_in a.ledger.now c.args.k) counts a.names l.g in
-    upto_more _ _ l.g (omega (arith, c.row_count-g-end.ensures, rows_few a.names)) l.numbers _ _ (l.invariant f h d e)
+    let own = part (under_asked a) (grant_in a.ledger.now c.args.k) counts a.sizes.names l.g in
+    upto_more _ _ l.g (omega (arith, c.row_count-g-end.ensures, rows_few a.sizes.names)) l.numbers _ _ (l.invariant f h d e)
     (d.others _ _ _ _ c.step.ensures) (d.number confidentiality _ l.g _ _ _ c.step.ensures (own confidentiality _ (gone.row confidentiality)))
     (d.others _ _ _ _ c.step-in-loop-g.ensures) (d.number integrity _ l.g _ _ _ c.step-in-loop-g.ensures (own integrity _ (gone.row integrity)))
 
@@ -32,4 +32,4 @@ pub returns : goal.returns
 returns t c f h d e =
     let a = c.args.asked.now in
     let counts : counts_under (under_asked a) (grant_in a.ledger.now c.args.k) ≡ false = rw c.counts.ensures at c.if-counts.false in
-    stored_cong a.names _ f h (λ s k. d.still s k (no_part (under_asked a) (grant_in a.ledger.now c.args.k) counts s k)) e
+    stored_cong a.sizes.names _ f h (λ s k. d.still s k (no_part (under_asked a) (grant_in a.ledger.now c.args.k) counts s k)) e

@@ -9,4 +9,4 @@ abbrev pub invariant-loop-g : goal.invariant-loop-g
 invariant-loop-g t l =
     let a = l.asked in
     let m = breaks_counting (under_asked a) (grant_in a.ledger.now l.k) in
-    (f h : Numbers) → Steps (λ x row marked y. goal.F-post t l.step x row marked tt y) a.names m f h → Stored a.names l.initial.numbers f → UpTo l.numbers (of_job a.names f) (of_job a.names h) l.g
+    (f h : Numbers) → Steps (λ x row marked y. goal.F-post t l.step x row marked tt y) a.sizes.names m f h → Stored a.sizes.names l.initial.numbers f → UpTo l.numbers (of_job a.sizes.names f) (of_job a.sizes.names h) l.g

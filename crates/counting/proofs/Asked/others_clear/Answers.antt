@@ -9,4 +9,4 @@ rows_clear-requires c = omega (arith, c.row_count.ensures, rows_few c.names_need
 pub returns : goal.returns
 returns c first =
     let a = c.args in
-    heard_rest a.self.now.ledger.now a.k a.self.now.label.now a.self.now.names _ _ _ c.row_count.ensures first c.names_needed-names.ensures c.rows_clear.ensures
+    heard_rest a.self.now.ledger.now a.k a.self.now.label.now a.self.now.sizes.names _ _ _ c.row_count.ensures first c.names_needed-names.ensures c.rows_clear.ensures

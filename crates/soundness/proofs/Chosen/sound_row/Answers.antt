@@ -8,5 +8,5 @@ pub returns : goal.returns
 unfolding mark
 returns c =
     let mask = c.low_row.ensures in
-    let n = c.args.n in
+    let n = c.args.self.now.sizes.names in
     (c.test_rows.ensures (λ s c. ltb c (2 ^ n)) (rw c.alike-all.ensures (rows_of _ (λ s c. ltb c (2 ^ n)) _ _ mask mask))).rows

@@ -33,5 +33,5 @@ loop-k-preserved c =
 
 pub returns : goal.returns
 returns c f v =
-    let end : c.loop-k.k ≡ c.args.self.now.grants = omega arith in
+    let end : c.loop-k.k ≡ c.args.self.now.sizes.grants = omega arith in
     rw end at (c.loop-k.invariant.1 f v)

@@ -2,12 +2,12 @@
 use Rattle.std.specs.Prelude.{◌≡◌, Bool, true, ℕ, ◌≤◌}
 use Rattle.model.specs.Sides.{Side}
 use Rattle.model.specs.Coalitions.{Marks}
+use Rattle.words.specs.declared.Rows.{Rows}
 use Rattle.words.specs.FourWords.{RowsAt}
 use Rattle.counting.specs.declared.Known.{Known}
 use Rattle.counting.specs.Counted.{KnownOf, counts_at, counted_in}
 use Rattle.soundness.specs.Keeping.{sound_in}
 use Rattle.counting.specs.declared.Asked.{Asked}
-use Rattle.questions.specs.declared.Sifted.{Sifted}
 
 -- every coalition is sound
 abbrev pub EverySound : Marks → Type 0
@@ -27,6 +27,6 @@ pub record SoundAsked (a : Asked) (known : Known) (S : Marks) : Type 0 where
   pub so : KnownOf (counts_asked a) known
 
 -- What is left of row g is a row of f, and what is known of the grants is so, `counts` being what counts.
-pub record SiftedTo (counts : ℕ → Bool) (f : Marks) (g : ℕ) (sifted : Sifted) : Type 0 where
-  pub rows : RowsAt f g sifted.left
-  pub so : KnownOf counts sifted.known
+pub record SiftedTo (counts : ℕ → Bool) (f : Marks) (g : ℕ) (known : Known) (left : Rows) : Type 0 where
+  pub rows : RowsAt f g left
+  pub so : KnownOf counts known

@@ -157,50 +157,6 @@ impl Sieve for NoGrants {
     }
 }
 
-// What is left of two rows of refuters, and what is known of the grants.
-#[derive(Clone, Copy)]
-struct Sifted {
-    left: Rows,
-    known: Known,
-}
-
-// Takes away those that break grant k, if it counts. It is judged only where one of them breaks it.
-fn sift_grant(asked: &Asked<'_>, k: usize, g: u64, of: Sifted) -> Sifted
-    ensures { k < 64 → (f : Marks) → SiftedTo (counts_asked asked.now) f g of → SiftedTo (counts_asked asked.now) (λ s c. f s c && implies (counts_asked asked.now k) (keeps (marks_of (grant_in asked.now.ledger.now k)) s c)) g result }
-{
-    let left = of.left;
-    let before = of.known;
-    if !before.may_count(k) {
-        return of;
-    }
-    let gone = soundness::broken(asked.ledger, k, g, left);
-    if words::none(gone) {
-        return of;
-    }
-    let known = asked.judge(k, before);
-    if !known.may_count(k) {
-        return Sifted { left, known };
-    }
-    Sifted {
-        left: words::rest(left, gone),
-        known,
-    }
-}
-
-// Takes away those that break a counting grant. It ends where none is left.
-fn sift_grants(asked: &Asked<'_>, g: u64, of: Sifted) -> Sifted
-    ensures { asked.now.sizes.grants ≤ 64 → (f : Marks) → SiftedTo (counts_asked asked.now) f g of → SiftedTo (counts_asked asked.now) (λ s c. f s c && sound_asked asked.now s c) g result }
-{
-    let mut sifted = of;
-    for k in 0..asked.sizes.grants {
-        if words::none(sifted.left) {
-            return sifted;
-        }
-        sifted = sift_grant(asked, k, g, sifted);
-    }
-    sifted
-}
-
 // The grants of a ledger, and what is known of them.
 #[derive(Clone, Copy)]
 struct Grants<'a> {
@@ -208,20 +164,40 @@ struct Grants<'a> {
     known: Known,
 }
 
+impl Grants<'_> {
+    // Takes away those that break grant k, if it counts. It is judged only where one of them breaks it.
+    fn sift_grant(&mut self, k: usize, g: u64, left: Rows) -> Rows
+        ensures asked { self.new.asked ≡ self.old.asked }
+        ensures sifted { k < 64 → (f : Marks) → SiftedTo (counts_asked self.old.asked) f g self.old.known left → SiftedTo (counts_asked self.old.asked) (λ s c. f s c && implies (counts_asked self.old.asked k) (keeps (marks_of (grant_in self.old.asked.ledger.now k)) s c)) g self.new.known result }
+    {
+        if !self.known.may_count(k) {
+            return left;
+        }
+        let gone = soundness::broken(self.asked.ledger, k, g, left);
+        if words::none(gone) {
+            return left;
+        }
+        self.known = self.asked.judge(k, self.known);
+        if !self.known.may_count(k) {
+            return left;
+        }
+        words::rest(left, gone)
+    }
+}
+
 impl Sieve for Grants<'_> {
     ghost keeps = { λ it S. SoundAsked it.asked it.known S };
 
+    // Takes away those that break a counting grant. It ends where none is left.
     fn sift(&mut self, g: u64, of: Rows) -> Rows {
-        let sifted = sift_grants(
-            &self.asked,
-            g,
-            Sifted {
-                left: of,
-                known: self.known,
-            },
-        );
-        self.known = sifted.known;
-        sifted.left
+        let mut left = of;
+        for k in 0..self.asked.sizes.grants {
+            if words::none(left) {
+                return left;
+            }
+            left = self.sift_grant(k, g, left);
+        }
+        left
     }
 }
 

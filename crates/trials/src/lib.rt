@@ -16,7 +16,7 @@ use soundness::{Chosen, Tested};
 use words::Side;
 
 // Reads a text to codes in a job of n names.
-// Kept: C has a name for each.
+// Kept: a crate is a library or an archive for C, so that a call stands in both, and C has a name for each.
 pub fn trials_read_text(n: u64, text: &[u8], codes: &mut [u8]) -> u32
     ensures answered { result ≡ number (read_text n text.now codes.old).answer }
     ensures written { codes.new ≡ (read_text n text.now codes.old).buffer }

@@ -26,6 +26,7 @@ enum Mark {
 }
 
 // A byte that is no code stands for the strongest party; the term reader refuses it.
+// Kept: an enum of all codes would be made of the byte as here, and then taken apart for its mark.
 fn mark_of(code: u8) -> Mark
     ensures { result ≡ mark_of code }
 {

@@ -39,7 +39,7 @@ enum Rule {
 
 // The bytes of a step that a rule uses: the first premise, the second, the grant.
 // Kept: a flag beside each byte, since a step has the three bytes in any case, and one that the rule doesn't use is tested too; an Option of each, or a
-// case for each set of them, was no plainer.
+// case for each set of them, would be no plainer.
 #[derive(Clone, Copy)]
 struct Uses {
     first: bool,

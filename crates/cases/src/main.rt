@@ -304,7 +304,7 @@ impl Operation {
 
 impl Call {
     // The number that the engine gives. What a call doesn't take is empty.
-    // Kept: where each number of a record stands is as tests/make_cases.c has it, here and below.
+    // Kept: each number of a record is asked where it stands, here and below: a struct of them would be filled from the same places.
     fn number(self, unpacked: &[u8], buffer: &mut [u8]) -> u32 {
         let ledger = input(unpacked, LEDGER);
         let p = input(unpacked, P);

@@ -29,7 +29,6 @@ fn columns_weight(sums: &[u16; 16], runs: &[u16; 16]) -> u32
 {
     let mut run: u32 = 0;
     let mut sum: u32 = 0;
-    // Kept: columns, and the rows below, by number from the last to the first: what has been added so far is said of those numbers.
     for column in (0..16).rev() {
         run += sums[column] as u32;
         sum += run + 16 * runs[column] as u32;

@@ -134,6 +134,7 @@ fn earlier(used: bool, premise: u8, k: usize) -> bool
 }
 
 // A derivation, its ledger once it is read, and which of the grants count: bit g says whether grant g does.
+// Kept: `soundness::Chosen` has the last three, for its tests of coalitions: with it each of the three would be named by two names.
 #[derive(Clone, Copy)]
 struct Book<'a> {
     derivation: &'a [u8],
@@ -296,7 +297,7 @@ fn check_steps(book: Book<'_>) -> Result<(), DerivationRefusal>
 }
 
 // Checks a derivation. The grants that count are judged once.
-// Kept: here and below, C lends ledger, label and day one by one, and they go on as they came.
+// Kept: C lends ledger, label and day one by one, and they go on as they came; quoting, below, takes what the check takes.
 pub fn check_derivation(
     derivation: &[u8],
     ledger: &[u8],

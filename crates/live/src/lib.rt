@@ -39,6 +39,7 @@ impl Live {
     }
 
     // What its grants are judged under: a written ledger of so many grants, and the label and the day.
+    // Kept: the ledger is cut by those that add and withdraw: tried here, and the borrow check does not cover it.
     fn asked<'a>(&'a self, ledger: &'a [u8], grants: usize) -> Asked<'a>
         ensures { AskedOf self.now ledger.now grants result }
     {
@@ -160,7 +161,7 @@ fn ask(
 }
 
 // Does p act for q?
-// Kept: document 01 has the two questions by their names, and so have its table of promises and C: each is `ask` at its relation.
+// Kept: document 02, K5, has the two questions by their names, and so have the exports for tests: each is `ask` at its relation.
 #[tactic(auto, unfolding(model::specs::Live::step))]
 pub fn acts_for(
     live: Live,

@@ -44,7 +44,7 @@ pub trait Sieve {
 
 // Row g of the coalitions of n names that refute, were they sound: those that hold p and not q, and for flows-to, on the see side, q and not p.
 // Kept: relation, n, p and q go on as they came, here and in those that ask: a value of them would be made by each and taken apart here.
-fn opposed(relation: Relation, n: u64, p: &[u8], q: &[u8], g: u64) -> Rows
+pub fn opposed(relation: Relation, n: u64, p: &[u8], q: &[u8], g: u64) -> Rows
     ensures { RowsAt (opposed_of relation n (term_in p.now) (term_in q.now)) g result }
 {
     let mask = words::low_row(n, g);
@@ -92,7 +92,7 @@ fn lowest_of(g: u64, row: Row) -> Option<u16>
 }
 
 // Those of two rows that can still decide: once there is a ground on the change side, those of the see side alone.
-fn still(found: Option<Refuter>, both: Rows) -> Rows
+pub fn still(found: Option<Refuter>, both: Rows) -> Rows
     ensures { result ≡ still_rows found both }
 {
     match found {
@@ -105,7 +105,7 @@ fn still(found: Option<Refuter>, both: Rows) -> Rows
 }
 
 // The first refuter once row g is searched too, `left` being the refuters in it that can still decide.
-fn further(found: Option<Refuter>, g: u64, left: Rows) -> Option<Refuter>
+pub fn further(found: Option<Refuter>, g: u64, left: Rows) -> Option<Refuter>
     ensures { verdict_of result ≡ further_of found g (lowest_in left.see) (lowest_in left.change) }
 {
     if let Some(coalition) = lowest_of(g, left.see) {

@@ -189,8 +189,7 @@ pub struct Held {
 }
 
 // There is a name at the place.
-// Kept: codes and a place, here and below: the place counts from the beginning of a ledger, as `ledgers::term_place` gives it, and where the term reader had the
-// codes left in their stead it was slower.
+// Kept: codes and a place, here and below: the place counts from the beginning of a ledger, as `ledgers::term_place` gives it.
 fn is_name(codes: &[u8], at: usize) -> bool
     ensures { result ≡ (ltb at (length codes.now) && ltb (get_or codes.now at 0) 12) }
 {
@@ -253,8 +252,8 @@ pub fn hold(codes: &[u8], at: usize, g: u64) -> Held
     }
     // What is left over goes to `hold_quorum`, so that quorums cost the other codes no test. Its result is taken apart: handed on whole, that of every code
     // would go through memory.
-    // Kept: a byte is taken apart here once: an enum of all codes would be made of it and taken apart at once, and a single arm for the two sides would ask again
-    // which it is.
+    // Kept: an enum of all codes, here and below, would be made of the byte and taken apart at once, and a single arm for the two sides would ask again which it
+    // is.
     match code {
         0x21 => Held {
             next,

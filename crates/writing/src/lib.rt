@@ -44,7 +44,7 @@ fn mark_of(code: u8) -> Mark
 }
 
 // A term that is written as a text: what is left of its codes, and a scratch, of which the first `to` bytes are written. No text is over 192 characters.
-// Kept: the scratch, which is copied at the end: of what a value with a model leaves in a buffer that it holds, a proof learns the length alone.
+// Kept: the scratch, which is copied at the end: tried with the lent buffer in the value, and of what the value leaves in it a proof learns the length alone.
 #[derive(Drop)]
 struct Writer<'a> {
     codes: &'a [u8],

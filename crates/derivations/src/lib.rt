@@ -239,6 +239,7 @@ fn read_field(
 }
 
 // The step by itself, its form and its terms: its rule.
+// Kept: the rule alone is handed on, as the model's reading of a step has it, and `check_step` makes the step of it and the same bytes.
 fn read_step(bytes: &[u8; 136], n: u64) -> Result<Rule, StepRefusal>
     ensures { rule_reading result ≡ read_step n (rule_of (byte 0 bytes.now)) bytes.now }
 {

@@ -152,6 +152,7 @@ pub fn name_word(i: u8, w: u64) -> u64
         3 => 0xFF00_FF00_FF00_FF00,
         4 => 0xFFFF_0000_FFFF_0000,
         5 => 0xFFFF_FFFF_0000_0000,
+        // Kept: `bit_set` takes a usize: here and in short forms the shift says it as shortly.
         6..=69 => if (w >> (i - 6)) % 2 == 1 { ALL } else { NONE },
         _ => NONE,
     }

@@ -5,7 +5,7 @@ use Rattle.std.specs.Prelude.{Option, Some, None}
 use Rattle.std.specs.Option.{is_some}
 use mathlib.Core.Bool.{Bool, true, false, not, ◌&&◌}
 use mathlib.Core.Logic.{◌↔◌}
-use Prim.Native.Nat.{ℕ, ◌^◌, ◌<◌}
+use Prim.Native.Nat.{ℕ, ◌^◌, ◌%◌, ◌<◌}
 use lib.Bits.{bit_and}
 use lib.Dec.{ltb}
 use Rattle.model.specs.Sides.{Side, confidentiality, integrity}
@@ -20,9 +20,12 @@ use Rattle.model.proofs.Sound.{static_says}
 use Rattle.words.specs.declared.Row.{Row}
 use Rattle.words.specs.declared.Rows.{Rows}
 use Rattle.words.specs.FourWords.{side_of, RowAt, RowsAt, each_word, lacks, lacks_word}
-use Rattle.words.specs.Evaluation.{job_of}
+use Rattle.words.specs.Evaluation.{job_of, row_count}
 use Rattle.words.proofs.FourWords.{row_both, row_lacks, rows_of}
 use Rattle.words.proofs.Names.{few_coalitions}
+use Rattle.tables.specs.declared.Table.{Table}
+use Rattle.tables.specs.Filling.{rows_of as table_rows}
+use Rattle.tables.proofs.Reading.{row_read}
 use Rattle.questions.specs.declared.Relation.{Relation}
 use Rattle.questions.specs.declared.Relation.TheVariants.{ActsFor, FlowsTo}
 use Rattle.questions.specs.Answers.{relation_of}
@@ -43,6 +46,13 @@ module _ (n : ℕ) (p q : Term) (g : ℕ) (mask : Row) (from to : Rows) (m : Row
     pub flows_rows : see ≡ each_word bit_and mask (each_word lacks_word to.see from.see) → RowsAt (opposed_of FlowsTo n p q) g (record { see = see; change = change })
     unfolding across
     flows_rows d = rows_of g (opposed_of FlowsTo n p q) see change (opposed_row _ _ _ _ see (b.row confidentiality) (a.row confidentiality) d) (opposed_row _ _ _ _ change (a.row integrity) (b.row integrity) e)
+
+-- from the tables of p and q, a row below those that n names have
+pub opposed_here : (relation : Relation) (n : ℕ) (p q : Term) (g : ℕ) (p_rows q_rows : Table) (from to r : Rows) → g < row_count n
+    → ((g : ℕ) → g < row_count n → RowsAt (held p) g (table_rows p_rows g)) → ((g : ℕ) → g < row_count n → RowsAt (held q) g (table_rows q_rows g))
+    → from ≡ table_rows p_rows (g % 16) → to ≡ table_rows q_rows (g % 16)
+    → ((p q : Term) → RowsAt (held p) g from → RowsAt (held q) g to → RowsAt (opposed_of relation n p q) g r) → RowsAt (opposed_of relation n p q) g r
+opposed_here relation n p q g p_rows q_rows from to r l a b d e h = h p q (row_read (held p) n g p_rows from l a d) (row_read (held q) n g q_rows to l b e)
 
 -- in the rows that a job has, those that are opposed and sound refute
 pub refuters_are : (relation : Relation) (n : ℕ) (S : Marks) (p q : Term) (s : Side) (c : ℕ) → c < 4096 → (opposed_of relation n p q s c && S s c) ≡ refuters_of relation n S p q s c

@@ -3,6 +3,7 @@
 
 ghost use Rattle.std.specs.Prelude.{◌≡◌, IfSome, ◌&&◌, ◌≤◌, ◌<◌};
 ghost use Rattle.model.specs.Coalitions.{Marks, implies};
+ghost use Rattle.model.specs.Terms.{Term, held};
 ghost use Rattle.model.specs.Grants.{marks_of, keeps, acts_statically};
 ghost use Rattle.model.specs.Questions.{ask, acts_for, flows_to};
 ghost use Rattle.words.specs.AnyBytes.{term_in};
@@ -15,6 +16,7 @@ ghost use Rattle.questions.specs.Sieving.{EverySound, SoundAsked, SiftedTo, coun
 
 use counting::{Asked, Known};
 use refusals::Refusal;
+use tables::Table;
 use words::{Row, Rows, Side};
 
 // A coalition that refutes, and the side on which it does.
@@ -42,16 +44,12 @@ pub trait Sieve {
         ensures { (S f : Marks) → keeps self.old S → RowsAt f g of → RowsAt (λ s c. f s c && S s c) g result × keeps self.new S };
 }
 
-// Row g of the coalitions of n names that refute, were they sound: those that hold p and not q, and for flows-to, on the see side, q and not p.
-// Kept: relation, n, p and q go on as they came, here and in those that ask: a value of them would be made by each and taken apart here.
-pub fn opposed(relation: Relation, n: u64, p: &[u8], q: &[u8], g: u64) -> Rows
-    ensures { RowsAt (opposed_of relation n (term_in p.now) (term_in q.now)) g result }
+// Row g of the coalitions of n names that refute, were they sound: those that hold p and not q, and for flows-to, on the see side, q and not p. Given are the
+// rows of p and of q.
+pub fn opposed(relation: Relation, n: u64, from: Rows, to: Rows, g: u64) -> Rows
+    ensures { (p q : Term) → RowsAt (held p) g from → RowsAt (held q) g to → RowsAt (opposed_of relation n p q) g result }
 {
     let mask = words::low_row(n, g);
-    let left = words::hold(p, 0, g);
-    let from = left.rows;
-    let right = words::hold(q, 0, g);
-    let to = right.rows;
     let change = words::both(mask, words::without(from.change, to.change));
     match relation {
         Relation::ActsFor => Rows {
@@ -123,7 +121,7 @@ pub fn further(found: Option<Refuter>, g: u64, left: Rows) -> Option<Refuter>
     found
 }
 
-// The first refuter: on the see side, else on the change side, whose first one is kept while the see side is searched to its end.
+// The first refuter, all rows of p and of q being held first: on the see side, else on the change side, whose first one is kept while the see side is searched to its end.
 pub fn first_refuter<S: Sieve>(
     relation: Relation,
     n: u64,
@@ -133,9 +131,13 @@ pub fn first_refuter<S: Sieve>(
 ) -> Option<Refuter>
     ensures { (T : Marks) → S.keeps sieve.old T → verdict_of result ≡ judge_of relation (job_of n) T (term_in p.now) (term_in q.now) }
 {
+    let mut p_rows = Table::new();
+    let mut q_rows = Table::new();
+    tables::hold_all(p, 0, n, &mut p_rows);
+    tables::hold_all(q, 0, n, &mut q_rows);
     let mut found = None;
     for g in 0..words::row_count(n) {
-        let left = still(found, opposed(relation, n, p, q, g));
+        let left = still(found, opposed(relation, n, p_rows.rows(g), q_rows.rows(g), g));
         let against = sieve.sift(g, left);
         found = further(found, g, against);
         if !words::empty(against.see) {

@@ -4,7 +4,7 @@
 
 ghost use Rattle.std.specs.Prelude.{◌≡◌, ◌&&◌, ℕ, ◌<◌, length};
 ghost use Rattle.model.specs.Coalitions.{Marks, mark};
-ghost use Rattle.model.specs.Grants.{marks_of, breaks};
+ghost use Rattle.model.specs.Grants.{GrantMarks, breaks};
 ghost use Rattle.model.specs.Live.{Numbers, breaks_counting, sound_by};
 ghost use Rattle.words.specs.AnyBytes.{term_in};
 ghost use Rattle.words.specs.FourWords.{RowsAt};
@@ -14,15 +14,16 @@ ghost use Rattle.questions.specs.Searching.{verdict_of, judge_of};
 ghost use Rattle.stored.specs.Stored.{of_job, more, Stored, Small, Steps, SoundStored, under_asked};
 
 use counting::Asked;
+use tables::Table;
 use questions::{Refuter, Relation, Sieve};
 use words::{Row, Rows};
 
-// Row g of the coalitions of n names that break grant k, on each side.
-fn breaking(ledger: &[u8], n: u64, k: usize, g: u64) -> Rows
-    ensures { RowsAt (λ s. mark n (breaks (marks_of (grant_in ledger.now k)) s)) g result }
+// Row g of the coalitions of n names that break a grant, on each side. Given are the rows of its p and of its q.
+fn breaking(n: u64, g: u64, p: Rows, q: Rows) -> Rows
+    ensures { (d : GrantMarks) → RowsAt d.p g p → RowsAt d.q g q → RowsAt (λ s. mark n (breaks d s)) g result }
 {
     let all = words::alike(words::low_row(n, g));
-    soundness::broken(ledger, k, g, all)
+    words::each_side(all, words::rest(p, q), words::both)
 }
 
 // Does a step to the numbers of the coalitions that break grant k, on each side, if the grant counts under the label on the day.
@@ -36,8 +37,13 @@ fn count<F: Fn(&mut [u64; 896], usize, Row)>(
     ensures { (f h : Numbers) → Steps (λ x row marked y. F.post step x row marked tt y) asked.now.sizes.names (breaks_counting (under_asked asked.now) (grant_in asked.now.ledger.now k)) f h → Stored asked.now.sizes.names numbers.old f → Stored asked.now.sizes.names numbers.new h }
 {
     if asked.counts(k) {
-        for g in 0..words::row_count(asked.sizes.names) {
-            let gone = breaking(asked.ledger, asked.sizes.names, k, g);
+        let n = asked.sizes.names;
+        let mut p = Table::new();
+        let mut q = Table::new();
+        tables::hold_all(asked.ledger, ledgers::term_place(k, ledgers::P), n, &mut p);
+        tables::hold_all(asked.ledger, ledgers::term_place(k, ledgers::Q), n, &mut q);
+        for g in 0..words::row_count(n) {
+            let gone = breaking(n, g, p.rows(g), q.rows(g));
             let at = g as usize;
             step(numbers, at, gone.see);
             step(numbers, 16 + at, gone.change);

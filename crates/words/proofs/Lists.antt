@@ -12,7 +12,7 @@ use Rattle.words.specs.declared.Row.{Row}
 use Rattle.words.specs.FourWords.{RowAt, row_set, row_in}
 use Rattle.words.specs.Evaluation.{held_word, Tabled, EvaluatedTo}
 
-words_equal : (a b c d a' b' c' d' : ℕ) → a ≡ a' → b ≡ b' → c ≡ c' → d ≡ d' → ◌≡◌ {A = Row} (record { a = a; b = b; c = c; d = d }) (record { a = a'; b = b'; c = c'; d = d' })
+pub words_equal : (a b c d a' b' c' d' : ℕ) → a ≡ a' → b ≡ b' → c ≡ c' → d ≡ d' → ◌≡◌ {A = Row} (record { a = a; b = b; c = c; d = d }) (record { a = a'; b = b'; c = c'; d = d' })
 words_equal a b c d a' b' c' d' p q r s = rw (p, q, r, s)
 
 module _ (words : List ℕ) (g : ℕ) (row : Row) where

@@ -64,7 +64,7 @@ no_code_lem c l t m =
     rw (r.no_name, t, r.no_bottom, r.no_both, r.no_either, m, r.no_see, r.no_change)
 
 -- the code of a joiner, and a byte that is none
-joiner_both : (c : ℕ) → joiner_at c ≡ Some Both → c ≡ 0x30
+pub joiner_both : (c : ℕ) → joiner_at c ≡ Some Both → c ≡ 0x30
 joiner_both c e = by (eqb c 0x30) (eqb c 0x31) refl refl e
   where
     by : (a b : Bool) → eqb c 0x30 ≡ a → eqb c 0x31 ≡ b → cond a (Some Both) (cond b (Some Either) None) ≡ Some Both → c ≡ 0x30
@@ -72,7 +72,7 @@ joiner_both c e = by (eqb c 0x30) (eqb c 0x31) refl refl e
     by false true p q e = cc
     by false false p q e = cc
 
-joiner_either : (c : ℕ) → joiner_at c ≡ Some Either → c ≡ 0x31
+pub joiner_either : (c : ℕ) → joiner_at c ≡ Some Either → c ≡ 0x31
 joiner_either c e = by (eqb c 0x30) (eqb c 0x31) refl refl e
   where
     by : (a b : Bool) → eqb c 0x30 ≡ a → eqb c 0x31 ≡ b → cond a (Some Both) (cond b (Some Either) None) ≡ Some Either → c ≡ 0x31

@@ -1,13 +1,13 @@
 // Terms held at 256 coalitions at once (document 01, "Terms"): bit k of word j of row g is coalition 256 * g + 64 * j + k.
 #![tactic(auto)]
 
-ghost use Rattle.std.specs.Prelude.{◌≡◌, cond, ◌&&◌, ◌||◌, ◌+◌, ◌-◌, ◌*◌, ◌^◌, ◌≤◌, ◌<◌, eqb, ltb, length, get_or};
+ghost use Rattle.std.specs.Prelude.{◌≡◌, ℕ, cond, ◌&&◌, ◌||◌, ◌+◌, ◌-◌, ◌*◌, ◌^◌, ◌≤◌, ◌<◌, eqb, ltb, length, get_or};
 ghost use Rattle.std.specs.Int.Bits.{bit_and, bit_or};
 ghost use Rattle.model.specs.Sides.{Side as ModelSide};
 ghost use Rattle.model.specs.Coalitions.{member, packed};
 ghost use Rattle.model.specs.Terms.{quorate};
 ghost use Rattle.words.specs.AnyBytes.{term_in};
-ghost use Rattle.words.specs.FourWords.{side_of, AtEachWord, AtEachSide, each_word, each_row, lacks_word, same_row, same_rows, both_sides, sided, empty_row, empty_rows, row_set, row_in, RowAt, Weighed};
+ghost use Rattle.words.specs.FourWords.{side_of, row_on, AtEachWord, AtEachSide, each_word, each_row, lacks_word, same_row, same_rows, both_sides, sided, empty_row, empty_rows, row_set, row_in, RowAt, Weighed};
 ghost use Rattle.words.specs.Evaluation.{coalition_word, job_of, joined, word_count, row_count, left_over, quorum_at, Evaluated, table_on, EvaluatedTo, LowestBit};
 
 use terms::Joiner;
@@ -72,6 +72,16 @@ pub fn sided(side: Side, row: Row, other: Row) -> Rows
             see: other,
             change: row,
         },
+    }
+}
+
+// The row of the side.
+pub fn on(side: Side, rows: Rows) -> Row
+    ensures { result ≡ row_on rows (side_of side) }
+{
+    match side {
+        Side::See => rows.see,
+        Side::Change => rows.change,
     }
 }
 
@@ -158,26 +168,36 @@ pub fn name_word(i: u8, w: u64) -> u64
     }
 }
 
-// The coalitions of row g that have name i as a member. A name from 8 up has all of a row or none of it: the row as the name two below has the word.
-fn name_row(i: u8, g: u64) -> Row
-    requires { i < 12 }
-    ensures { RowAt (member i) g result }
+// The coalitions of a row that have name i as a member, the same in every row: a name below 8 goes by the place in the row.
+pub fn low_name_row(i: u8) -> Row
+    requires { i < 8 }
+    ensures { (g : ℕ) → RowAt (member i) g result }
 {
     match i {
-        0..=5 => same(name_word(i, g)),
+        0..=5 => same(name_word(i, 0)),
         6 => Row {
             a: NONE,
             b: ALL,
             c: NONE,
             d: ALL,
         },
-        7 => Row {
+        _ => Row {
             a: NONE,
             b: NONE,
             c: ALL,
             d: ALL,
         },
-        _ => same(name_word(i - 2, g)),
+    }
+}
+
+// The coalitions of row g that have name i as a member. A name from 8 up has all of a row or none of it: the row as the name two below has the word.
+pub fn name_row(i: u8, g: u64) -> Row
+    ensures { RowAt (member i) g result }
+{
+    if i < 8 {
+        low_name_row(i)
+    } else {
+        same(name_word(i - 2, g))
     }
 }
 
@@ -365,7 +385,11 @@ fn hold_quorum(codes: &[u8], at: usize, g: u64) -> Held
     table[0] = alike(same(ALL));
     let mut next = at + 3;
     for _ in 0..codes[at + 2] {
-        let p = hold_quorum(codes, next, g);
+        let p = if is_name(codes, next) {
+            hold_name(codes, next, g)
+        } else {
+            hold_quorum(codes, next, g)
+        };
         weigh(&mut table, k, p.rows);
         next = p.next;
     }

@@ -1,8 +1,11 @@
 use mathlib.Core.Path.{◌≡◌}
+use Prim.Native.Nat.{◌<◌}
+use Rattle.words.specs.Evaluation.{row_count}
+use Rattle.tables.proofs.Reading.{row_held}
 use mathlib.Core.Bool.{true, false}
 use native.Mathlib.Omega.{arith}
 use Rattle.model.specs.Sides.{confidentiality, integrity}
-use Rattle.model.specs.Grants.{counts_under}
+use Rattle.model.specs.Grants.{marks_of, counts_under}
 use Rattle.words.proofs.Names.{rows_few}
 use Rattle.counting.specs.Counted.{grant_in}
 use Rattle.stored.specs.Stored.{under_asked}
@@ -16,7 +19,11 @@ pub loop-g-preserved : goal.loop-g-preserved
 loop-g-preserved t c f h d e =
     let a = c.args.asked.now in
     let l = c.loop-g in
-    let gone = c.breaking-gone.ensures in
+    let grant = grant_in a.ledger.now c.args.k in
+    let low : l.g < row_count a.sizes.names = omega (arith, c.row_count-g-end.ensures) in
+    let gone = c.breaking-gone.ensures (marks_of grant)
+    (row_held a.ledger.now a.sizes.names l.g _ _ _ _ c.term_place.ensures low c.hold_all.ensures c.rows.ensures)
+    (row_held a.ledger.now a.sizes.names l.g _ _ _ _ c.term_place-then-counts.ensures low c.hold_all-then-counts.ensures c.rows-in-loop-g.ensures) in
     let counts : counts_under (under_asked a) (grant_in a.ledger.now c.args.k) ≡ true = rw c.counts.ensures at c.if-counts.true in
     let own = part (under_asked a) (grant_in a.ledger.now c.args.k) counts a.sizes.names l.g in
     upto_more _ _ l.g (omega (arith, c.row_count-g-end.ensures, rows_few a.sizes.names)) l.numbers _ _ (l.invariant f h d e)

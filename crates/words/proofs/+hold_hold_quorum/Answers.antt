@@ -12,7 +12,7 @@ use Rattle.words.proofs.Behind.{behind_left_over, behind_other, behind_most}
 use Rattle.words.proofs.Steps.{left_over_lem, left_over_inside, eval_end, eval_bottom, eval_project, eval_join, eval_quorum, eval_left_over}
 use Rattle.words.proofs.Tallies.{weighing_start, weighing_next}
 use Rattle.words.proofs.+hold_hold_quorum.Goals as goal
-use Rattle.words.proofs.+hold_hold_quorum.Goals.{hold-Joined-is_name, hold-Joined-is_name-2, hold_quorum-Else-not-leaves, hold_quorum-Else-not-is_quorum, hold-then-is_name, hold-else-is_name, hold-then-is_name-2, hold-else-is_name-2}
+use Rattle.words.proofs.+hold_hold_quorum.Goals.{hold-Joined-is_name, hold-Joined-is_name-2, hold_quorum-Else-not-leaves, hold_quorum-Else-not-is_quorum, hold-then-is_name, hold-else-is_name, hold-then-is_name-2, hold-else-is_name-2, hold_quorum-Joined-is_name, hold_quorum-then-is_name, hold_quorum-else-is_name}
 
 -- a part that is held at a place, and the place after it
 abbrev There : List ℕ → ℕ → ℕ → Held → Type 0
@@ -96,12 +96,19 @@ pub hold_quorum-hold_quorum-p-requires : goal.hold_quorum-hold_quorum-p-requires
 hold_quorum-hold_quorum-p-requires t c =
     (omega (arith, there t (goal.at.hold_quorum-hold_quorum-p-requires t c).Else-not-leaves, c.loop.invariant.1.forward, behind_most c.args.codes.now c.loop.next, c.decreases), tt)
 
+-- a part, whether it is a name or not
+part : (t : ℕ) (c : hold_quorum-Joined-is_name t) → There c.args.codes.now c.loop.next c.args.g c.if-is_name.p
+part t c = elim c.if-is_name.branch [
+  | hold_quorum-then-is_name w ↦ subst (There c.args.codes.now c.loop.next c.args.g) (sym w.p-is) w.hold_name-p.ensures
+  | hold_quorum-else-is_name w ↦ subst (There c.args.codes.now c.loop.next c.args.g) (sym w.p-is) w.hold_quorum-p.ensures
+]
+
 pub hold_quorum-loop-preserved : goal.hold_quorum-loop-preserved
 hold_quorum-loop-preserved t c =
     let l = c.loop in
     let m = get_or c.args.codes.now (c.args.at + 2) 0 in
     let fewer : m - (l.counter + 1) ≡ m - l.counter - 1 = omega arith in
-    (l.invariant.0, rw fewer (weighing_next _ _ _ _ _ _ _ _ c.hold_quorum-p.ensures _ _ l.invariant.0 c.weigh.ensures (m - l.counter) (omega arith) l.invariant.1))
+    (l.invariant.0, rw fewer (weighing_next _ _ _ _ _ _ _ _ (part t (goal.at.hold_quorum-loop-preserved t c).Joined-is_name) _ _ l.invariant.0 c.weigh.ensures (m - l.counter) (omega arith) l.invariant.1))
 
 pub hold_quorum-returns : goal.hold_quorum-returns
 hold_quorum-returns t c =

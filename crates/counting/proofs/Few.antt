@@ -13,24 +13,26 @@ use lib.Pow.{pow_pos, pow_mono}
 use lib.Seq.{get_or-take}
 use borrow.Author.Tests.{lt-ltb, le-ltb}
 use Rattle.model.specs.Sides.{Side, confidentiality, integrity}
-use Rattle.model.specs.Coalitions.{member, every, mark}
+use Rattle.model.specs.Coalitions.{member, Marks, every, mark}
 use Rattle.model.specs.Terms.{Term, name, top, bottom, conj, disj, project, quorum, Terms, nil, cons, NamesBelow, PartsBelow, held, held_count}
-use Rattle.model.specs.Grants.{Grant, marks_of, voice, heard}
+use Rattle.model.specs.Grants.{Grant, GrantMarks, marks_of, voice, heard}
 use Rattle.model.proofs.Truth.{bool_ext}
 use Rattle.model.proofs.Search.{every_elim, every_intro}
 use Rattle.model.proofs.Packed.{member-zero, member-suc}
 use Rattle.words.specs.AnyBytes.{taken, term_in}
 use Rattle.words.specs.Evaluation.{job_of, row_count, ClearTo}
 use Rattle.words.proofs.AnyBytes.{names-taken}
-use Rattle.words.proofs.Names.{rows_few_of}
+use Rattle.words.proofs.Names.{rows_few, rows_few_of}
 use Rattle.words.proofs.Searches.{clear_all}
 use Rattle.ledgers.specs.Places.{q_place, label_place}
-use Rattle.counting.specs.Counted.{grant_in, bars_counting, bars_at, heard_at, NamesAt, NeededOf, ClearedTo}
+use Rattle.counting.specs.Counted.{grant_in, bars_counting, bars_at, heard_at, NamesAt, NeededOf, ClearAt, JudgedAt, ClearedTo}
+use Rattle.counting.specs.declared.Judged.{Judged}
+use Rattle.tables.specs.Filling.{rows_of}
 use Rattle.std.specs.Bool.{MatchBool}
 use Rattle.std.specs.List.{filter, fold, AllWithin, HoldsAt, range_with_len}
 use Rattle.std.proofs.lemmas.List.FromFn.{get_or-range_with_len, length-range_with_len}
 use Rattle.words.specs.declared.Row.{Row}
-use Rattle.words.specs.FourWords.{RowAt, empty_row}
+use Rattle.words.specs.FourWords.{RowAt, RowsAt, empty_row}
 use Rattle.words.proofs.FourWords.{row_empty}
 use Rattle.words.proofs.Searches.{clear_not}
 use Rattle.counting.proofs.Bars.{heard_bars}
@@ -164,24 +166,50 @@ clear_fewer m n f g h clear c l = elim (dec_lt c (2 ^ m)) [
 
 -- no coalition of row g bars the grant, and some coalition does, so that it is not heard
 unfoldable pub RowClear : List ℕ → ℕ → ℕ → List ℕ → ℕ → Type 0
-RowClear ledger n k label g = g < 16 → (c : ℕ) → 256 * g ≤ c → c < 256 * g + 256 → mark (job_of n) (bars_at ledger label k) c ≡ false
+RowClear ledger n k label g = g < row_count n → (c : ℕ) → 256 * g ≤ c → c < 256 * g + 256 → mark (job_of n) (bars_at ledger label k) c ≡ false
 
 unfoldable pub RowBars : List ℕ → ℕ → ℕ → List ℕ → ℕ → Type 0
-RowBars ledger n k label g = g < 16 → heard_at ledger n label k ≡ false
+RowBars ledger n k label g = g < row_count n → heard_at ledger n label k ≡ false
+
+-- what row g of tables tells
+abbrev pub ToldBy : Judged → ℕ → ℕ → Bool → Type 0
+ToldBy judged n g r = (L : Marks) (d : GrantMarks) → RowsAt L g (rows_of judged.under (g % 16)) → RowsAt d.label g (rows_of judged.own (g % 16)) → RowsAt d.q g (rows_of judged.q (g % 16))
+    → ClearAt (mark n (bars_counting L d)) g r
 
 module _ (ledger : List ℕ) (n k : ℕ) (label : List ℕ) where
-  module _ (g : ℕ) (x : Row) (r : RowAt (mark n (bars_at ledger label k)) g x) where
-    pub row_clear : true ≡ empty_row x → RowClear ledger n k label g
+  module _ (g : ℕ) (l : g < row_count n) (x : Row) (r : RowAt (mark n (bars_at ledger label k)) g x) where
+    row_job : RowAt (mark (job_of n) (bars_at ledger label k)) g x
+    row_job = marked_job n g (bars_at ledger label k) x (omega (arith, rows_few n)) r
+
+    row_clear : true ≡ empty_row x → (c : ℕ) → 256 * g ≤ c → c < 256 * g + 256 → mark (job_of n) (bars_at ledger label k) c ≡ false
+    row_clear e = row_empty (mark (job_of n) (bars_at ledger label k)) g x row_job (sym e)
+
+    row_bars : false ≡ empty_row x → heard_at ledger n label k ≡ false
+    row_bars e = heard_bars (job_of n) _ (marks_of (grant_in ledger k)) ∙ sym (clear_not (job_of n) (bars_at ledger label k) _ _ row_job (sym e))
+
+  -- what a row of tables tells of any label and grant, it tells of those that they hold
+  judged_row : (judged : Judged) → JudgedAt ledger n k label judged → (r : Bool) (g : ℕ) → ToldBy judged n g r → g < row_count n → ClearAt (mark n (bars_at ledger label k)) g r
+  judged_row judged d r g h l =
+      let small : g % 16 ≡ g = omega (arith, rows_few n) in
+      rw small at h (held (term_in label)) (marks_of (grant_in ledger k)) (d.under g l) (d.own g l) (d.q g l)
+
+  module _ (judged : Judged) (j : JudgedAt ledger n k label judged) (g : ℕ) where
+    pub told_clear : ToldBy judged n g true → RowClear ledger n k label g
     unfolding RowClear
-    row_clear e h = row_empty (mark (job_of n) (bars_at ledger label k)) g x (marked_job n g (bars_at ledger label k) x h r) (sym e)
+    told_clear h l = let d = judged_row judged j true g h l in row_clear g l d.row d.is d.told
 
-    pub row_bars : false ≡ empty_row x → RowBars ledger n k label g
+    pub told_bars : ToldBy judged n g false → RowBars ledger n k label g
     unfolding RowBars
-    row_bars e h =
-        heard_bars (job_of n) _ (marks_of (grant_in ledger k))
-        ∙ sym (clear_not (job_of n) (bars_at ledger label k) _ _ (marked_job n g (bars_at ledger label k) x h r) (sym e))
+    told_bars h l = let d = judged_row judged j false g h l in row_bars g l d.row d.is d.told
 
-  pub rows_cleared : (from to : ℕ) (r : Bool) → to ≤ 16
+  -- the first row alone
+  pub first_cleared : (x : Row) (r : Bool) → RowAt (mark n (bars_at ledger label k)) 0 x → r ≡ empty_row x → ClearedTo ledger n k label 0 1 r
+  first_cleared x r d e = let one : 0 < row_count n = pow_pos (job_of n - 8) in record {
+    clear = λ t before c h. row_clear 0 one x d (sym t ∙ e) c (omega arith) (omega arith);
+    barred = λ f. row_bars 0 one x d (sym f ∙ e);
+  }
+
+  pub rows_cleared : (from to : ℕ) (r : Bool) → to ≤ row_count n
       → MatchBool r (AllWithin (RowClear ledger n k label) (range_with_len from (to - from)) 0 (length (range_with_len from (to - from))))
       ((i : ℕ) × (i < length (range_with_len from (to - from))) × HoldsAt (RowBars ledger n k label) (range_with_len from (to - from)) i)
       → ClearedTo ledger n k label from to r

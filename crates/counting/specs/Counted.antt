@@ -7,10 +7,13 @@ use Rattle.model.specs.Terms.{NamesBelow, held}
 use Rattle.model.specs.Dates.{in_days}
 use Rattle.model.specs.Grants.{Grant, GrantMarks, marks_of, voice, heard, under, counts_under}
 use Rattle.words.specs.AnyBytes.{term_in}
-use Rattle.words.specs.FourWords.{lacks}
-use Rattle.words.specs.Evaluation.{job_of, ClearTo}
+use Rattle.words.specs.declared.Row.{Row}
+use Rattle.words.specs.FourWords.{RowAt, RowsAt, lacks, empty_row}
+use Rattle.words.specs.Evaluation.{job_of, row_count, ClearTo}
 use Rattle.ledgers.specs.Places.{p_place, q_place, label_place, days_place}
+use Rattle.tables.specs.Filling.{rows_of}
 use Rattle.counting.specs.declared.Known.{Known}
+use Rattle.counting.specs.declared.Judged.{Judged}
 
 -- the grant whose terms and days stand in any bytes where those of grant k of a ledger do
 abbrev pub grant_in : List ℕ → ℕ → Grant
@@ -76,6 +79,18 @@ pub record NamesAt (bytes : List ℕ) (at least r : ℕ) : Type 0 where
 pub record NeededOf (ledger : List ℕ) (n k : ℕ) (label : List ℕ) (r : ℕ) : Type 0 where
   pub few : r ≤ n
   pub alike : heard_at ledger r label k ≡ heard_at ledger n label k
+
+-- no coalition of row g is one of f exactly if r is true, as the row tells
+pub record ClearAt (f : ℕ → Bool) (g : ℕ) (r : Bool) : Type 0 where
+  pub row : Row
+  pub is : RowAt f g row
+  pub told : r ≡ empty_row row
+
+-- Of the rows that n names have, the tables hold those of the label, of the label of grant k and of its q.
+pub record JudgedAt (ledger : List ℕ) (n k : ℕ) (label : List ℕ) (judged : Judged) : Type 0 where
+  pub under : (g : ℕ) → g < row_count n → RowsAt (held (term_in label)) g (rows_of judged.under g)
+  pub own : (g : ℕ) → g < row_count n → RowsAt (held (grant_in ledger k).label) g (rows_of judged.own g)
+  pub q : (g : ℕ) → g < row_count n → RowsAt (held (grant_in ledger k).q) g (rows_of judged.q g)
 
 -- Where r is true no coalition of n names in the rows from one to another bars grant k, and where it is false one does, so that the grant is not heard.
 pub record ClearedTo (ledger : List ℕ) (n k : ℕ) (label : List ℕ) (from to : ℕ) (r : Bool) : Type 0 where

@@ -1,14 +1,17 @@
 // Which grants count under a label, on a day (document 01, "Grants that count"; document 02, K2).
 #![tactic(auto)]
 
-ghost use Rattle.std.specs.Prelude.{◌≡◌, ◌≤◌};
-ghost use Rattle.model.specs.Coalitions.{member, mark};
-ghost use Rattle.words.specs.FourWords.{RowAt};
-ghost use Rattle.words.specs.Evaluation.{job_of, ClearTo};
-ghost use Rattle.counting.specs.Counted.{bars_at, heard_at, on_day, counts_at, counted_in, nothing_known, judged_at, NamesAt, NeededOf, ClearedTo};
+ghost use Rattle.std.specs.Prelude.{◌≡◌, ℕ, ◌%◌};
+ghost use Rattle.model.specs.Coalitions.{member, Marks, mark};
+ghost use Rattle.model.specs.Grants.{GrantMarks};
+ghost use Rattle.words.specs.FourWords.{RowAt, RowsAt};
+ghost use Rattle.words.specs.Evaluation.{job_of, row_count, ClearTo};
+ghost use Rattle.tables.specs.Filling.{rows_of};
+ghost use Rattle.counting.specs.Counted.{bars_counting, bars_at, ClearAt, JudgedAt, heard_at, on_day, counts_at, counted_in, nothing_known, judged_at, NamesAt, NeededOf, ClearedTo};
 
 use ledgers::Sizes;
-use words::Row;
+use tables::Table;
+use words::{Row, Rows};
 
 // A number above each name of the term that the bytes from `at` on stand for, and at least `least`.
 fn names_at(codes: &[u8], at: usize, least: u64) -> u64
@@ -21,6 +24,44 @@ fn names_at(codes: &[u8], at: usize, least: u64) -> u64
         .fold(least, |most, code| most.max(*code as u64 + 1))
 }
 
+// Those of a row that bar a grant from counting under a label, from the rows of the label, of the grant's label and of its q: they see the label and not the
+// grant's, or change the grant's and not the label, or change it and don't hold the voice of q.
+fn barred(under: Rows, own: Rows, q: Rows) -> Row
+    ensures { (L : Marks) (d : GrantMarks) (g : ℕ) → RowsAt L g under → RowsAt d.label g own → RowsAt d.q g q → RowAt (bars_counting L d) g result }
+{
+    let unseen = words::without(under.see, own.see);
+    let voice = words::both(q.see, q.change);
+    let allowed = words::both(under.change, voice);
+    words::either(unseen, words::without(own.change, allowed))
+}
+
+// All rows of a label, of a grant's label and of its q.
+#[derive(Drop)]
+struct Judged {
+    under: Table,
+    own: Table,
+    q: Table,
+}
+
+impl Judged {
+    // Holds those of n names that tell whether grant k is heard.
+    fn hold(&mut self, asked: &Asked<'_>, n: u64, k: usize)
+        ensures { JudgedAt asked.now.ledger.now n k asked.now.label.now self.new }
+    {
+        tables::hold_all(asked.label, 0, n, &mut self.under);
+        tables::hold_all(asked.ledger, ledgers::term_place(k, ledgers::LABEL), n, &mut self.own);
+        tables::hold_all(asked.ledger, ledgers::term_place(k, ledgers::Q), n, &mut self.q);
+    }
+
+    // No coalition of n names in row g bars the grant from counting under the label.
+    fn is_clear(&self, n: u64, g: u64) -> bool
+        ensures { (L : Marks) (d : GrantMarks) → RowsAt L g (rows_of self.now.under (g % 16)) → RowsAt d.label g (rows_of self.now.own (g % 16)) → RowsAt d.q g (rows_of self.now.q (g % 16)) → ClearAt (mark n (bars_counting L d)) g result }
+    {
+        let bars = barred(self.under.rows(g), self.own.rows(g), self.q.rows(g));
+        words::empty(words::both(words::low_row(n, g), bars))
+    }
+}
+
 // A ledger, how many names and grants it has, and the label and the day that it is asked under.
 #[derive(Clone, Copy)]
 pub struct Asked<'a> {
@@ -31,21 +72,17 @@ pub struct Asked<'a> {
 }
 
 impl Asked<'_> {
-    // Those of row g that bar grant k from counting under the label: they see the label and not the grant's, or change the grant's and not the label, or
-    // change it and don't hold the voice of q. Where none changes the grant's label there is no need of q.
+    // Those of row g that bar grant k from counting under the label. Where none changes the grant's label there is no need of q.
     fn barring(&self, k: usize, g: u64) -> Row
         ensures { RowAt (bars_at self.now.ledger.now self.now.label.now k) g result }
     {
         let under = words::hold(self.label, 0, g).rows;
         let own = words::hold(self.ledger, ledgers::term_place(k, ledgers::LABEL), g).rows;
-        let unseen = words::without(under.see, own.see);
         if words::empty(own.change) {
-            return unseen;
+            return words::without(under.see, own.see);
         }
         let q = words::hold(self.ledger, ledgers::term_place(k, ledgers::Q), g).rows;
-        let voice = words::both(q.see, q.change);
-        let allowed = words::both(under.change, voice);
-        words::either(unseen, words::without(own.change, allowed))
+        barred(under, own, q)
     }
 
     // And those that are coalitions of n names. The mask is needed only where there are any.
@@ -70,28 +107,38 @@ impl Asked<'_> {
         self.sizes.names.min(all)
     }
 
-    // No coalition of n names in the rows from one to another bars grant k.
-    fn rows_clear(&self, n: u64, k: usize, from: u64, to: u64) -> bool
-        requires { to ≤ 16 }
-        ensures { ClearedTo self.now.ledger.now n k self.now.label.now from to result }
+    // No coalition of the names there are in the first row bars grant k.
+    fn first_clear(&self, k: usize) -> bool
+        ensures { ClearedTo self.now.ledger.now self.now.sizes.names k self.now.label.now 0 1 result }
     {
-        (from..to).all(|g| words::empty(self.barring_of(n, k, g)))
+        words::empty(self.barring_of(self.sizes.names, k, 0))
     }
 
-    // The same in the rows after the first, of as many names as there is need to ask: where the first is clear, it tells whether grant k is heard.
+    // No coalition of n names in the rows after the first bars grant k.
+    fn rows_clear(&self, n: u64, k: usize) -> bool
+        ensures { ClearedTo self.now.ledger.now n k self.now.label.now 1 (row_count n) result }
+    {
+        let mut judged = Judged {
+            under: Table::new(),
+            own: Table::new(),
+            q: Table::new(),
+        };
+        judged.hold(self, n, k);
+        (1..words::row_count(n)).all(|g| judged.is_clear(n, g))
+    }
+
+    // The same of as many names as there is need to ask: where the first row is clear, it tells whether grant k is heard.
     fn others_clear(&self, k: usize) -> bool
         ensures { ClearTo (job_of self.now.sizes.names) (bars_at self.now.ledger.now self.now.label.now k) 1 → result ≡ heard_at self.now.ledger.now self.now.sizes.names self.now.label.now k }
     {
-        let names = self.names_needed(k);
-        self.rows_clear(names, k, 1, words::row_count(names))
+        self.rows_clear(self.names_needed(k), k)
     }
 
     // Grant k is visible under the label, and spoken. The first row tells most grants that are not.
     fn heard(&self, k: usize) -> bool
         ensures { result ≡ heard_at self.now.ledger.now self.now.sizes.names self.now.label.now k }
     {
-        self.rows_clear(self.sizes.names, k, 0, 1)
-            && (self.sizes.names <= 8 || self.others_clear(k))
+        self.first_clear(k) && (self.sizes.names <= 8 || self.others_clear(k))
     }
 
     // The day is within the days of grant k.

@@ -48,9 +48,9 @@ impl Judged {
     fn hold(&mut self, asked: &Asked<'_>, n: u64, k: usize)
         ensures { JudgedAt asked.now.ledger.now n k asked.now.label.now self.new }
     {
-        tables::hold_all(asked.label, 0, n, &mut self.under);
-        tables::hold_all(asked.ledger, ledgers::term_place(k, ledgers::LABEL), n, &mut self.own);
-        tables::hold_all(asked.ledger, ledgers::term_place(k, ledgers::Q), n, &mut self.q);
+        self.under.hold(asked.label, 0, n);
+        self.own.hold(asked.ledger, ledgers::term_place(k, ledgers::LABEL), n);
+        self.q.hold(asked.ledger, ledgers::term_place(k, ledgers::Q), n);
     }
 
     // No coalition of n names in row g bars the grant from counting under the label.

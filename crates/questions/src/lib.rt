@@ -133,11 +133,14 @@ pub fn first_refuter<S: Sieve>(
 {
     let mut p_rows = Table::new();
     let mut q_rows = Table::new();
-    tables::hold_all(p, 0, n, &mut p_rows);
-    tables::hold_all(q, 0, n, &mut q_rows);
+    p_rows.hold(p, 0, n);
+    q_rows.hold(q, 0, n);
     let mut found = None;
     for g in 0..words::row_count(n) {
-        let left = still(found, opposed(relation, n, p_rows.rows(g), q_rows.rows(g), g));
+        let left = still(
+            found,
+            opposed(relation, n, p_rows.rows(g), q_rows.rows(g), g),
+        );
         let against = sieve.sift(g, left);
         found = further(found, g, against);
         if !words::empty(against.see) {

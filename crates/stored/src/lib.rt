@@ -14,8 +14,8 @@ ghost use Rattle.questions.specs.Searching.{verdict_of, judge_of};
 ghost use Rattle.stored.specs.Stored.{of_job, more, Stored, Small, Steps, SoundStored, under_asked};
 
 use counting::Asked;
-use tables::Table;
 use questions::{Refuter, Relation, Sieve};
+use tables::Table;
 use words::{Row, Rows};
 
 // Row g of the coalitions of n names that break a grant, on each side. Given are the rows of its p and of its q.
@@ -40,8 +40,8 @@ fn count<F: Fn(&mut [u64; 896], usize, Row)>(
         let n = asked.sizes.names;
         let mut p = Table::new();
         let mut q = Table::new();
-        tables::hold_all(asked.ledger, ledgers::term_place(k, ledgers::P), n, &mut p);
-        tables::hold_all(asked.ledger, ledgers::term_place(k, ledgers::Q), n, &mut q);
+        p.hold(asked.ledger, ledgers::term_place(k, ledgers::P), n);
+        q.hold(asked.ledger, ledgers::term_place(k, ledgers::Q), n);
         for g in 0..words::row_count(n) {
             let gone = breaking(n, g, p.rows(g), q.rows(g));
             let at = g as usize;

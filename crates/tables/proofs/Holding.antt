@@ -10,9 +10,9 @@ use lib.Dec.{eqb}
 use lib.ListN.{length, set, length-set}
 use lib.Seq.{get_or-set_same, get_or-set_other}
 use Rattle.model.specs.Sides.{Side, confidentiality, integrity}
-use Rattle.model.specs.Terms.{Term, conj, disj, project, top, bottom, name, held}
+use Rattle.model.specs.Terms.{Term, project, top, bottom, name, held}
 use Rattle.model.specs.Coalitions.{member}
-use Rattle.model.proofs.Truth.{clash, or_left, or_right, and_left, and_right, bool_ext, and_intro, or_elim}
+use Rattle.model.proofs.Truth.{clash, or_left, or_right, and_left, and_right}
 use Rattle.terms.specs.declared.Joiner.{Joiner}
 use Rattle.terms.specs.declared.Joiner.TheVariants.{Both, Either}
 use Rattle.words.specs.declared.Row.{Row}

@@ -9,9 +9,8 @@ use Rattle.words.specs.declared.Row.{Row}
 use Rattle.words.specs.declared.Rows.{Rows}
 use Rattle.words.specs.declared.Side.{Side as CodeSide}
 use Rattle.words.specs.declared.Side.TheVariants.{See, Change}
-use Rattle.words.specs.AnyBytes.{taken, term_in}
-use Rattle.words.specs.FourWords.{RowAt, RowsAt, each_word, same_row}
-use Rattle.words.specs.Evaluation.{row_count}
+use Rattle.words.specs.AnyBytes.{taken}
+use Rattle.words.specs.FourWords.{RowAt, each_word, same_row}
 use Rattle.tables.specs.declared.Table.{Table}
 
 -- row g of a list of rows

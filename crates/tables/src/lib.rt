@@ -14,11 +14,6 @@ ghost use Rattle.tables.specs.Filling.{rows_of, EachRow, joined_row, joined_mark
 use terms::Joiner;
 use words::{Row, Rows, Side};
 
-// The word of the strongest party, held nowhere, and that of the weakest, held everywhere.
-const NONE: u64 = 0;
-
-const ALL: u64 = 0xFFFF_FFFF_FFFF_FFFF;
-
 // The rows of a term on each side, those of 12 names at most.
 #[derive(Drop)]
 pub struct Table {
@@ -30,9 +25,16 @@ impl Table {
     // A table before a term is held in it.
     pub fn new() -> Table {
         Table {
-            see: [words::same(NONE); 16],
-            change: [words::same(NONE); 16],
+            see: [words::same(words::NONE); 16],
+            change: [words::same(words::NONE); 16],
         }
+    }
+
+    // Holds the term of a job of n names that the bytes from `at` on stand for.
+    pub fn hold(&mut self, codes: &[u8], at: usize, n: u64)
+        ensures { (g : ℕ) → g < row_count n → RowsAt (held (term_in (drop at codes.now))) g (rows_of self.new g) }
+    {
+        hold_sides(codes, at, n, &mut self.see, &mut self.change)
     }
 
     // Row g on both sides; there are 16 rows at most.
@@ -107,6 +109,13 @@ fn join_name(joiner: Joiner, i: u8, rows: &mut [Row; 16], count: usize)
     }
 }
 
+// A row joined to another's row g.
+fn join_nth(joiner: Joiner, other: &[Row; 16], g: u64, x: Row) -> Row
+    ensures { result ≡ joined_row joiner x (nth_row other.now (g % 16)) }
+{
+    join(joiner, x, other[(g % 16) as usize])
+}
+
 // The name at the place, if there is one.
 fn name_at(codes: &[u8], at: usize) -> Option<u8>
     ensures { result ≡ name_at codes.now at }
@@ -126,6 +135,7 @@ fn side_at(code: u8) -> Option<Side>
 }
 
 // The sides are the same.
+// Kept: what `==` of an enum promises speaks of the variants' numbers, and not of the sides.
 fn same_side(of: Side, side: Side) -> bool
     ensures { result ≡ same_side of side }
 {
@@ -142,166 +152,141 @@ struct End {
     sided: bool,
 }
 
-// The term row by row: of a quorum each part is weighed in each row, and what is no code is told by `words` alone.
-fn fill_each(side: Side, codes: &[u8], at: usize, rows: &mut [Row; 16], count: usize) -> End
-    requires { (0 < count) × (count ≤ 16) }
-    ensures held { Holding (term_in (drop at codes.now)) (side_of side) result.sided count rows.old rows.new }
-    ensures past { result.next ≡ end_of codes.now at }
-{
-    let mut end = End {
-        next: at,
-        sided: false,
-    };
-    for g in 0..count {
-        let held = words::hold(codes, at, g as u64);
-        rows[g] = words::on(side, held.rows);
-        end = End {
-            next: held.next,
-            sided: end.sided | (held.rows.see != held.rows.change),
-        };
-    }
-    end
-}
-
-// A row joined to another's row g.
-fn join_nth(joiner: Joiner, other: &[Row; 16], g: u64, x: Row) -> Row
-    ensures { result ≡ joined_row joiner x (nth_row other.now (g % 16)) }
-{
-    join(joiner, x, other[(g % 16) as usize])
-}
-
-// Joins the rows of the term that the bytes from `at` on stand for. They need a place of their own: `fill` has none, so that a term that is no part of two
-// others costs no such place.
-#[inline(never)]
-#[cycle(fill_fill_side_fill_two_join_part)]
-fn join_part(
-    joiner: Joiner,
+// Bytes of which terms are held on a side, in the first rows, so many.
+#[derive(Clone, Copy)]
+struct Filling<'a> {
+    codes: &'a [u8],
     side: Side,
-    codes: &[u8],
-    at: usize,
-    rows: &mut [Row; 16],
     count: usize,
-) -> End
-    requires { (0 < count) × (count ≤ 16) }
-    ensures held { Joining joiner (term_in (drop at codes.now)) (side_of side) result.sided count rows.old rows.new }
-    ensures past { result.next ≡ end_of codes.now at }
-{
-    let mut other = [words::same(NONE); 16];
-    let end = fill(side, codes, at, &mut other, count);
-    each(rows, count, |g, x| join_nth(joiner, &other, g, x));
-    end
 }
 
-// Two terms one after the other, joined. A name is joined in place, also where it is the first.
-#[cycle(fill_fill_side_fill_two_join_part)]
-fn fill_two(
-    joiner: Joiner,
-    side: Side,
-    codes: &[u8],
-    at: usize,
-    rows: &mut [Row; 16],
-    count: usize,
-) -> End
-    requires { (0 < count) × (count ≤ 16) }
-    ensures held { Holding (two_of joiner (term_in (drop at codes.now)) (term_in (drop (end_of codes.now at) codes.now))) (side_of side) result.sided count rows.old rows.new }
-    ensures past { result.next ≡ end_of codes.now (end_of codes.now at) }
-{
-    if let Some(i) = name_at(codes, at) {
-        let second = fill(side, codes, at + 1, rows, count);
-        join_name(joiner, i, rows, count);
-        return second;
-    }
-    let first = fill(side, codes, at, rows, count);
-    if let Some(i) = name_at(codes, first.next) {
-        join_name(joiner, i, rows, count);
-        return End {
-            next: first.next + 1,
-            sided: first.sided,
-        };
-    }
-    let second = join_part(joiner, side, codes, first.next, rows, count);
-    End {
-        next: second.next,
-        sided: first.sided | second.sided,
-    }
-}
-
-// One side of a term: on the other every coalition holds it, and the term is only passed.
-#[cycle(fill_fill_side_fill_two_join_part)]
-fn fill_side(
-    of: Side,
-    side: Side,
-    codes: &[u8],
-    at: usize,
-    rows: &mut [Row; 16],
-    count: usize,
-) -> End
-    requires { (0 < count) × (count ≤ 16) }
-    ensures held { Holding (project (side_of of) (term_in (drop at codes.now))) (side_of side) result.sided count rows.old rows.new }
-    ensures past { result.next ≡ end_of codes.now at }
-{
-    if !same_side(of, side) {
-        put(words::same(ALL), rows, count);
-        return End {
-            next: words::hold(codes, at, 0).next,
-            sided: true,
-        };
-    }
-    let part = fill(side, codes, at, rows, count);
-    End {
-        next: part.next,
-        sided: true,
-    }
-}
-
-// The rows on a side of the term that the bytes from `at` on stand for.
-#[cycle(fill_fill_side_fill_two_join_part)]
-fn fill(side: Side, codes: &[u8], at: usize, rows: &mut [Row; 16], count: usize) -> End
-    requires { (0 < count) × (count ≤ 16) }
-    ensures held { Holding (term_in (drop at codes.now)) (side_of side) result.sided count rows.old rows.new }
-    ensures past { result.next ≡ end_of codes.now at }
-{
-    let Some(code) = codes.get(at) else {
-        put(words::same(NONE), rows, count);
-        return End {
+impl Filling<'_> {
+    // The term that stands at a place, row by row: of a quorum each part is weighed in each row, and what is no code is told by `words` alone.
+    fn hold_each(&self, at: usize, rows: &mut [Row; 16]) -> End
+        requires { (0 < self.now.count) × (self.now.count ≤ 16) }
+        ensures held { Holding (term_in (drop at self.now.codes.now)) (side_of self.now.side) result.sided self.now.count rows.old rows.new }
+        ensures past { result.next ≡ end_of self.now.codes.now at }
+    {
+        let mut end = End {
             next: at,
             sided: false,
         };
-    };
-    let code = *code;
-    let next = at + 1;
-    if code < 12 {
-        put_name(code, rows, count);
-        return End { next, sided: false };
-    }
-    if let Some(joiner) = Joiner::of(code) {
-        return fill_two(joiner, side, codes, next, rows, count);
-    }
-    if let Some(of) = side_at(code) {
-        return fill_side(of, side, codes, next, rows, count);
-    }
-    match code {
-        0x20 => {
-            put(words::same(NONE), rows, count);
-            End { next, sided: false }
+        for g in 0..self.count {
+            let held = words::hold(self.codes, at, g as u64);
+            rows[g] = words::on(self.side, held.rows);
+            end = End {
+                next: held.next,
+                sided: end.sided | (held.rows.see != held.rows.change),
+            };
         }
-        0x21 => {
-            put(words::same(ALL), rows, count);
-            End { next, sided: false }
+        end
+    }
+
+    // Joins the rows of the term at a place. They need a place of their own, which no frame of `hold` has: so it is paid only where neither of two terms is a name.
+    #[inline(never)]
+    #[cycle(hold_hold_side_hold_two_join_term)]
+    fn join_term(&self, joiner: Joiner, at: usize, rows: &mut [Row; 16]) -> End
+        requires { (0 < self.now.count) × (self.now.count ≤ 16) }
+        ensures held { Joining joiner (term_in (drop at self.now.codes.now)) (side_of self.now.side) result.sided self.now.count rows.old rows.new }
+        ensures past { result.next ≡ end_of self.now.codes.now at }
+    {
+        let mut other = [words::same(words::NONE); 16];
+        let end = self.hold(at, &mut other);
+        each(rows, self.count, |g, x| join_nth(joiner, &other, g, x));
+        end
+    }
+
+    // Two terms one after the other, joined. A name is joined in place, also where it is the first.
+    #[cycle(hold_hold_side_hold_two_join_term)]
+    fn hold_two(&self, joiner: Joiner, at: usize, rows: &mut [Row; 16]) -> End
+        requires { (0 < self.now.count) × (self.now.count ≤ 16) }
+        ensures held { Holding (two_of joiner (term_in (drop at self.now.codes.now)) (term_in (drop (end_of self.now.codes.now at) self.now.codes.now))) (side_of self.now.side) result.sided self.now.count rows.old rows.new }
+        ensures past { result.next ≡ end_of self.now.codes.now (end_of self.now.codes.now at) }
+    {
+        if let Some(i) = name_at(self.codes, at) {
+            let second = self.hold(at + 1, rows);
+            join_name(joiner, i, rows, self.count);
+            return second;
         }
-        _ => fill_each(side, codes, at, rows, count),
+        let first = self.hold(at, rows);
+        if let Some(i) = name_at(self.codes, first.next) {
+            join_name(joiner, i, rows, self.count);
+            return End {
+                next: first.next + 1,
+                sided: first.sided,
+            };
+        }
+        let second = self.join_term(joiner, first.next, rows);
+        End {
+            next: second.next,
+            sided: first.sided | second.sided,
+        }
+    }
+
+    // One side of the term at a place: on the other every coalition holds it, and the term is only passed.
+    #[cycle(hold_hold_side_hold_two_join_term)]
+    fn hold_side(&self, of: Side, at: usize, rows: &mut [Row; 16]) -> End
+        requires { (0 < self.now.count) × (self.now.count ≤ 16) }
+        ensures held { Holding (project (side_of of) (term_in (drop at self.now.codes.now))) (side_of self.now.side) result.sided self.now.count rows.old rows.new }
+        ensures past { result.next ≡ end_of self.now.codes.now at }
+    {
+        if !same_side(of, self.side) {
+            put(words::same(words::ALL), rows, self.count);
+            return End {
+                next: words::hold(self.codes, at, 0).next,
+                sided: true,
+            };
+        }
+        let part = self.hold(at, rows);
+        End {
+            next: part.next,
+            sided: true,
+        }
+    }
+
+    // The term at a place.
+    #[cycle(hold_hold_side_hold_two_join_term)]
+    fn hold(&self, at: usize, rows: &mut [Row; 16]) -> End
+        requires { (0 < self.now.count) × (self.now.count ≤ 16) }
+        ensures held { Holding (term_in (drop at self.now.codes.now)) (side_of self.now.side) result.sided self.now.count rows.old rows.new }
+        ensures past { result.next ≡ end_of self.now.codes.now at }
+    {
+        let Some(code) = self.codes.get(at) else {
+            put(words::same(words::NONE), rows, self.count);
+            return End {
+                next: at,
+                sided: false,
+            };
+        };
+        let code = *code;
+        let next = at + 1;
+        if code < 12 {
+            put_name(code, rows, self.count);
+            return End { next, sided: false };
+        }
+        if let Some(joiner) = Joiner::of(code) {
+            return self.hold_two(joiner, next, rows);
+        }
+        if let Some(of) = side_at(code) {
+            return self.hold_side(of, next, rows);
+        }
+        match code {
+            0x20 => {
+                put(words::same(words::NONE), rows, self.count);
+                End { next, sided: false }
+            }
+            0x21 => {
+                put(words::same(words::ALL), rows, self.count);
+                End { next, sided: false }
+            }
+            _ => self.hold_each(at, rows),
+        }
     }
 }
 
-// The rows on both sides of the term that the bytes from `at` on stand for, of a job of n names. A job of one row is held as `words` does; a term that is the
-// same on both sides is held once.
-fn hold_sides(
-    codes: &[u8],
-    at: usize,
-    n: u64,
-    see: &mut [Row; 16],
-    change: &mut [Row; 16],
-)
+// The rows on both sides of the term at a place, of a job of n names. A job of one row is held as `words` does; a term that is the same on both sides is held
+// once.
+fn hold_sides(codes: &[u8], at: usize, n: u64, see: &mut [Row; 16], change: &mut [Row; 16])
     ensures { (s : ModelSide) (g : ℕ) → g < row_count n → RowAt (held (term_in (drop at codes.now)) s) g (nth_row (listed see.new change.new s) g) }
 {
     let count = words::row_count(n) as usize;
@@ -311,17 +296,19 @@ fn hold_sides(
         change[0] = rows.change;
         return;
     }
-    let end = fill(Side::See, codes, at, see, count);
+    let filling = Filling {
+        codes,
+        side: Side::See,
+        count,
+    };
+    let end = filling.hold(at, see);
     if end.sided {
-        fill(Side::Change, codes, at, change, count);
+        let other = Filling {
+            side: Side::Change,
+            ..filling
+        };
+        other.hold(at, change);
     } else {
         *change = *see;
     }
-}
-
-// Holds in a table the term of a job of n names that the bytes from `at` on stand for.
-pub fn hold_all(codes: &[u8], at: usize, n: u64, table: &mut Table)
-    ensures { (g : ℕ) → g < row_count n → RowsAt (held (term_in (drop at codes.now))) g (rows_of table.new g) }
-{
-    hold_sides(codes, at, n, &mut table.see, &mut table.change)
 }

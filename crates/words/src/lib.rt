@@ -13,9 +13,9 @@ ghost use Rattle.words.specs.Evaluation.{coalition_word, job_of, joined, word_co
 use terms::Joiner;
 
 // The word of the strongest party, held nowhere, and that of the weakest, held everywhere.
-const NONE: u64 = 0;
+pub const NONE: u64 = 0;
 
-const ALL: u64 = 0xFFFF_FFFF_FFFF_FFFF;
+pub const ALL: u64 = 0xFFFF_FFFF_FFFF_FFFF;
 
 #[derive(Clone, Copy, Debug, PartialEq, Eq)]
 pub enum Side {

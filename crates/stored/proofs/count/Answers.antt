@@ -22,8 +22,8 @@ loop-g-preserved t c f h d e =
     let grant = grant_in a.ledger.now c.args.k in
     let low : l.g < row_count a.sizes.names = omega (arith, c.row_count-g-end.ensures) in
     let gone = c.breaking-gone.ensures (marks_of grant)
-    (row_held a.ledger.now a.sizes.names l.g _ _ _ _ c.term_place.ensures low c.hold_all.ensures c.rows.ensures)
-    (row_held a.ledger.now a.sizes.names l.g _ _ _ _ c.term_place-then-counts.ensures low c.hold_all-then-counts.ensures c.rows-in-loop-g.ensures) in
+    (row_held a.ledger.now a.sizes.names l.g _ _ _ _ c.term_place.ensures low c.hold.ensures c.rows.ensures)
+    (row_held a.ledger.now a.sizes.names l.g _ _ _ _ c.term_place-then-counts.ensures low c.hold-then-counts.ensures c.rows-in-loop-g.ensures) in
     let counts : counts_under (under_asked a) (grant_in a.ledger.now c.args.k) ≡ true = rw c.counts.ensures at c.if-counts.true in
     let own = part (under_asked a) (grant_in a.ledger.now c.args.k) counts a.sizes.names l.g in
     upto_more _ _ l.g (omega (arith, c.row_count-g-end.ensures, rows_few a.sizes.names)) l.numbers _ _ (l.invariant f h d e)

@@ -2,7 +2,6 @@ use Rattle.std.proofs.Common.{rules}
 use mathlib.Core.Path.{◌≡◌}
 use mathlib.Core.Bool.{Bool}
 use Prim.Native.Nat.{ℕ}
-use Rattle.words.specs.declared.Row.{Row}
 use Rattle.words.specs.FourWords.{RowAt}
 use Rattle.model.specs.Coalitions.{member}
 use Rattle.tables.specs.Filling.{joined_row, joined_mark}

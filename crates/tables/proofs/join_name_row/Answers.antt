@@ -1,4 +1,3 @@
-use mathlib.Core.Path.{◌∙◌}
 use Rattle.tables.proofs.Joined.{row_joined}
 use Rattle.tables.proofs.join_name_row.Goals as goal
 

@@ -1,6 +1,4 @@
 use Rattle.std.proofs.Common.{rules}
-use Rattle.model.specs.Coalitions.{member}
-use Rattle.words.specs.FourWords.{RowAt}
 use Rattle.tables.proofs.Rows.{each_weak}
 use Rattle.tables.proofs.put_name.Goals as goal
 

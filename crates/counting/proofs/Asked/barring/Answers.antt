@@ -1,11 +1,10 @@
-use mathlib.Core.Path.{sym, ap, ap₂, ◌∙◌, subst}
+use mathlib.Core.Path.{sym, ◌∙◌, subst}
 use Prim.Native.Nat.{ℕ}
-use lib.Bits.{bit_and, bit_or}
 use lib.ListN.{drop}
 use Rattle.model.specs.Terms.{held}
 use Rattle.model.specs.Grants.{marks_of}
 use Rattle.words.specs.AnyBytes.{term_in}
-use Rattle.words.specs.FourWords.{RowsAt, each_word, lacks_word}
+use Rattle.words.specs.FourWords.{RowsAt}
 use Rattle.counting.specs.Counted.{grant_in}
 use Rattle.counting.proofs.Tests.{bars_unseen}
 use Rattle.counting.proofs.Asked.barring.Goals as goal

@@ -49,8 +49,10 @@ impl Judged {
         ensures { JudgedAt asked.now.ledger.now n k asked.now.label.now self.new }
     {
         self.under.hold(asked.label, 0, n);
-        self.own.hold(asked.ledger, ledgers::term_place(k, ledgers::LABEL), n);
-        self.q.hold(asked.ledger, ledgers::term_place(k, ledgers::Q), n);
+        self.own
+            .hold(asked.ledger, ledgers::term_place(k, ledgers::LABEL), n);
+        self.q
+            .hold(asked.ledger, ledgers::term_place(k, ledgers::Q), n);
     }
 
     // No coalition of n names in row g bars the grant from counting under the label.
@@ -58,7 +60,8 @@ impl Judged {
         ensures { (L : Marks) (d : GrantMarks) → RowsAt L g (rows_of self.now.under (g % 16)) → RowsAt d.label g (rows_of self.now.own (g % 16)) → RowsAt d.q g (rows_of self.now.q (g % 16)) → ClearAt (mark n (bars_counting L d)) g result }
     {
         let bars = barred(self.under.rows(g), self.own.rows(g), self.q.rows(g));
-        words::empty(words::both(words::low_row(n, g), bars))
+        let all = words::low_row(n, g);
+        words::empty(words::both(all, bars))
     }
 }
 

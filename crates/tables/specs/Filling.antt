@@ -1,5 +1,5 @@
 -- What holds a term at all rows of a side (document 01, "Terms"). Assumes nothing: these are definitions.
-use Rattle.std.specs.Prelude.{◌≡◌, Bool, true, false, ◌&&◌, ◌||◌, List, ℕ, ◌+◌, ◌≤◌, ◌<◌, cond, eqb, ltb, length, drop, get_or, Option, Some, None}
+use Rattle.std.specs.Prelude.{◌≡◌, Bool, true, false, ◌&&◌, ◌||◌, List, ℕ, ◌+◌, ◌≤◌, ◌<◌, cond, eqb, ltb, length, drop, get_or, replicate, Option, Some, None}
 use Rattle.std.specs.Int.Bits.{bit_and, bit_or}
 use Rattle.model.specs.Sides.{Side, confidentiality, integrity}
 use Rattle.model.specs.Terms.{Term, conj, disj, held}
@@ -25,6 +25,10 @@ listed see change integrity = change
 -- row g of a table, on both sides
 abbrev pub rows_of : Table → ℕ → Rows
 rows_of table g = record { see = nth_row table.see g; change = nth_row table.change g }
+
+-- a table in which no coalition is marked
+abbrev pub blank : Table
+blank = record { see = replicate 16 (same_row 0); change = replicate 16 (same_row 0) }
 
 -- Each of the first rows of a list became another, as a relation over its number says; later rows are as they were.
 pub record EachRow (of : ℕ → Row → Row → Type 0) (count : ℕ) (before after : List Row) : Type 0 where

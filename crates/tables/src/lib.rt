@@ -9,7 +9,7 @@ ghost use Rattle.model.specs.Terms.{name, project, held};
 ghost use Rattle.words.specs.AnyBytes.{term_in};
 ghost use Rattle.words.specs.FourWords.{side_of, RowAt, RowsAt};
 ghost use Rattle.words.specs.Evaluation.{row_count};
-ghost use Rattle.tables.specs.Filling.{rows_of, EachRow, joined_row, joined_mark, Holding, Joining, end_of, name_at, side_at, same_side, two_of, nth_row, listed};
+ghost use Rattle.tables.specs.Filling.{blank, rows_of, EachRow, joined_row, joined_mark, Holding, Joining, end_of, name_at, side_at, same_side, two_of, nth_row, listed};
 
 use terms::Joiner;
 use words::{Row, Rows, Side};
@@ -23,7 +23,9 @@ pub struct Table {
 
 impl Table {
     // A table before a term is held in it.
-    pub fn new() -> Table {
+    pub fn new() -> Table
+        ensures { result ≡ blank }
+    {
         Table {
             see: [words::same(words::NONE); 16],
             change: [words::same(words::NONE); 16],

@@ -168,10 +168,9 @@ pub fn name_word(i: u8, w: u64) -> u64
     }
 }
 
-// The coalitions of a row that have name i as a member, the same in every row: a name below 8 goes by the place in the row.
+// The coalitions of a row that have name i as a member, i being below 8: the same in every row, since such a name goes by the place in the row.
 pub fn low_name_row(i: u8) -> Row
-    requires { i < 8 }
-    ensures { (g : ℕ) → RowAt (member i) g result }
+    ensures { (g : ℕ) → i < 8 → RowAt (member i) g result }
 {
     match i {
         0..=5 => same(name_word(i, 0)),

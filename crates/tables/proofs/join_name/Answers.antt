@@ -12,7 +12,7 @@ pub returns-then-i-lt8 : goal.returns-then-i-lt8
 returns-then-i-lt8 c s = joining_each _ _ s _ _ _ _ _ (λ t _ f g x y _ p r.
     let low = c.low_name_row-low.result in
     let new : y ≡ joined_row c.args.joiner x low = search rules in
-    name_held _ _ t f g y (rw new (row_joined c.args.joiner g f (member c.args.i) x low r (c.low_name_row-low.ensures g)))) c.each.ensures
+    name_held _ _ t f g y (rw new (row_joined c.args.joiner g f (member c.args.i) x low r (c.low_name_row-low.ensures g c.if-i-lt8.true)))) c.each.ensures
 
 pub returns-else-i-lt8 : goal.returns-else-i-lt8
 returns-else-i-lt8 c s = joining_each _ _ s _ _ _ _ _ (λ t _ f g x y _ p r.

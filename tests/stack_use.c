@@ -49,8 +49,9 @@ static size_t stack_of_thread(uint8_t *stack, struct request *request)
 }
 
 /* What the deepest terms and texts are nested by: signs, joiners to the left, joiners to the right (of a text, brackets
- * alone), quorums 1:1. Where there is room for one more code, it is a sign. */
-enum shape { SIGNS, LEFT, RIGHT, QUORUMS, SHAPES };
+ * alone), joiners to the right of which no part is a name (of a text, as the next), quorums 1:1. Where there is room for
+ * one more code, it is a sign. */
+enum shape { SIGNS, LEFT, RIGHT, PAIRS, QUORUMS, SHAPES };
 
 static struct term one_of_one(const struct term *part)
 {
@@ -62,7 +63,7 @@ static struct term one_of_one(const struct term *part)
 
 static struct term deepest_term(enum shape shape)
 {
-    struct term name = one_code(0), term = name;
+    struct term name = one_code(0), term = name, side = prefixed(SEE_OF, &name);
     while (term.length < CODES - 1)
         if (shape == SIGNS)
             term = prefixed(CHANGE_OF, &term);
@@ -70,6 +71,8 @@ static struct term deepest_term(enum shape shape)
             term = joined(EITHER, &term, &name);
         else if (shape == RIGHT)
             term = joined(EITHER, &name, &term);
+        else if (shape == PAIRS)
+            term = joined(EITHER, &side, &term);
         else
             term = one_of_one(&term);
     return term.length < CODES ? prefixed(CHANGE_OF, &term) : term;

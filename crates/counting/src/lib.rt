@@ -117,9 +117,9 @@ impl Asked<'_> {
         words::empty(self.barring_of(self.sizes.names, k, 0))
     }
 
-    // No coalition of n names in the rows after the first bars grant k.
-    fn rows_clear(&self, n: u64, k: usize) -> bool
-        ensures { ClearedTo self.now.ledger.now n k self.now.label.now 1 (row_count n) result }
+    // No coalition of n names in the rows from one on bars grant k.
+    fn rows_clear(&self, n: u64, k: usize, from: u64) -> bool
+        ensures { ClearedTo self.now.ledger.now n k self.now.label.now from (row_count n) result }
     {
         let mut judged = Judged {
             under: Table::new(),
@@ -127,14 +127,14 @@ impl Asked<'_> {
             q: Table::new(),
         };
         judged.hold(self, n, k);
-        (1..words::row_count(n)).all(|g| judged.is_clear(n, g))
+        (from..words::row_count(n)).all(|g| judged.is_clear(n, g))
     }
 
-    // The same of as many names as there is need to ask: where the first row is clear, it tells whether grant k is heard.
+    // The same in the rows after the first, of as many names as there is need to ask: where the first is clear, it tells whether grant k is heard.
     fn others_clear(&self, k: usize) -> bool
         ensures { ClearTo (job_of self.now.sizes.names) (bars_at self.now.ledger.now self.now.label.now k) 1 → result ≡ heard_at self.now.ledger.now self.now.sizes.names self.now.label.now k }
     {
-        self.rows_clear(self.names_needed(k), k)
+        self.rows_clear(self.names_needed(k), k, 1)
     }
 
     // Grant k is visible under the label, and spoken. The first row tells most grants that are not.

@@ -24,7 +24,8 @@ use Rattle.words.proofs.FourWords.{row_cong, rows_cong, rows_empty}
 use Rattle.planes.specs.Digits.{Digits, Elsewhere, Raised, Lowered}
 use Rattle.planes.proofs.Planes.{digits_else, digits_cong}
 use Rattle.questions.specs.declared.Relation.{Relation}
-use Rattle.questions.specs.Searching.{from_of, to_of, judge_of}
+use Rattle.questions.specs.declared.Relation.TheVariants.{ActsFor}
+use Rattle.questions.specs.Searching.{from_of, to_of, judge_of, opposed_of}
 use Rattle.stored.specs.Stored.{row_of, of_job, more, Stored, Small, Steps}
 
 -- numbers that agree are stored alike
@@ -110,6 +111,11 @@ module _ (of : MutBor (List ℕ) → ℕ → Row → MutBor (List ℕ) → Type 
   }
 
 -- ---- a grant's part
+
+-- those that refute, were they sound, that p acts for q break the grant
+pub opposed_breaks : (g : Grant) (n k : ℕ) (s : Side) (x : Row) → RowAt (opposed_of ActsFor n g.p g.q s) k x → RowAt (mark n (breaks (marks_of g) s)) k x
+unfolding mark
+opposed_breaks g n k s x r = r
 
 -- a grant that counts breaks what breaks it, and one that doesn't is broken by none
 module _ (u : Under) (g : Grant) where

@@ -3,11 +3,9 @@
 #![tactic(auto)]
 
 ghost use Rattle.std.specs.Prelude.{◌≡◌, ◌&&◌, ℕ, ◌<◌, length};
-ghost use Rattle.model.specs.Coalitions.{Marks, mark};
-ghost use Rattle.model.specs.Grants.{GrantMarks, breaks};
+ghost use Rattle.model.specs.Coalitions.{Marks};
 ghost use Rattle.model.specs.Live.{Numbers, breaks_counting, sound_by};
 ghost use Rattle.words.specs.AnyBytes.{term_in};
-ghost use Rattle.words.specs.FourWords.{RowsAt};
 ghost use Rattle.words.specs.Evaluation.{job_of};
 ghost use Rattle.counting.specs.Counted.{grant_in};
 ghost use Rattle.questions.specs.Searching.{verdict_of, judge_of};
@@ -18,15 +16,8 @@ use questions::{Refuter, Relation, Sieve};
 use tables::Table;
 use words::{Row, Rows};
 
-// Row g of the coalitions of n names that break a grant, on each side. Given are the rows of its p and of its q.
-fn breaking(n: u64, g: u64, p: Rows, q: Rows) -> Rows
-    ensures { (d : GrantMarks) → RowsAt d.p g p → RowsAt d.q g q → RowsAt (λ s. mark n (breaks d s)) g result }
-{
-    let all = words::alike(words::low_row(n, g));
-    words::each_side(all, words::rest(p, q), words::both)
-}
-
-// Does a step to the numbers of the coalitions that break grant k, on each side, if the grant counts under the label on the day.
+// Does a step to the numbers of the coalitions that break grant k, on each side, if the grant counts under the label on the day. They are those that refute,
+// were they sound, that its p acts for its q.
 fn count<F: Fn(&mut [u64; 896], usize, Row)>(
     numbers: &mut [u64; 896],
     asked: &Asked<'_>,
@@ -43,7 +34,7 @@ fn count<F: Fn(&mut [u64; 896], usize, Row)>(
         p.hold(asked.ledger, ledgers::term_place(k, ledgers::P), n);
         q.hold(asked.ledger, ledgers::term_place(k, ledgers::Q), n);
         for g in 0..words::row_count(n) {
-            let gone = breaking(n, g, p.rows(g), q.rows(g));
+            let gone = questions::opposed(Relation::ActsFor, n, p.rows(g), q.rows(g), g);
             let at = g as usize;
             step(numbers, at, gone.see);
             step(numbers, 16 + at, gone.change);

@@ -1,6 +1,6 @@
 -- The first rows of a list, held on a side: by one row more, and where a code joins, or takes one side of, what was held. Assumes nothing.
 use mathlib.Core.Path.{◌≡◌, refl, sym, ap, ◌∙◌, subst}
-use mathlib.Core.Bool.{Bool, true, false, not, ◌&&◌, ◌||◌}
+use mathlib.Core.Bool.{Bool, true, false, not, ◌&&◌, ◌||◌, or-false}
 use mathlib.Core.List.{List}
 use Prim.Native.Nat.{ℕ, ◌+◌, ◌≤◌, ◌<◌}
 use native.Mathlib.Decide.{ℕ_discrete}
@@ -116,18 +116,16 @@ module _ (j : Joiner) (p q : Term) (s : Side) (count : ℕ) (before now after : 
     same = e.same ∙ d.same;
   }
 
-  -- a name, after the first term, and before the second
+  -- a term that is the same on both sides
   pub holding_last : (a : Bool) → Holding p s a count before now → Joining j q s false count now after → Holding (two_of j p q) s a count before after
-  holding_last a d e = record {
-    row = λ t serves g l m. row_cong g _ _ _ (λ c _ _. both_held j p q t c) (e.row t (unsided s t) _ g l (omega (arith, d.same)) (d.row t serves g l m));
-    same = e.same ∙ d.same;
-  }
+  holding_last a d e = rw or-false at (holding_joined a false d e)
 
-  pub holding_first : (a : Bool) → Holding q s a count before now → Joining j p s false count now after → Holding (two_of j p q) s a count before after
-  holding_first a d e = record {
-    row = λ t serves g l m. row_cong g _ _ _ (λ c _ _. turned j (held q t c) (held p t c) ∙ both_held j p q t c) (e.row t (unsided s t) _ g l (omega (arith, d.same)) (d.row t serves g l m));
-    same = e.same ∙ d.same;
-  }
+-- the same with the two terms exchanged
+pub holding_turned : (j : Joiner) (p q : Term) (s : Side) (a : Bool) (count : ℕ) (before after : List Row) → Holding (two_of j q p) s a count before after → Holding (two_of j p q) s a count before after
+holding_turned j p q s a count before after d = record {
+  row = λ t serves g l m. row_cong g _ _ _ (λ c _ _. sym (both_held j q p t c) ∙ turned j (held q t c) (held p t c) ∙ both_held j p q t c) (d.row t serves g l m);
+  same = d.same;
+}
 
 -- ---- one side of a term
 

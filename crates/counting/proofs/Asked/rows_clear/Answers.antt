@@ -12,7 +12,7 @@ returns c =
     let ledger = a.self.now.ledger.now in
     let label = a.self.now.label.now in
     let judged = c.hold.new.self in
-    rw c.row_count.ensures at (rows_cleared ledger a.n a.k label 1 to _ (omega (arith, c.row_count.ensures))
-    (cases_from_all _ _ _ (RowClear ledger a.n a.k label) (RowBars ledger a.n a.k label) c.all.ensures.ran (YieldsList-from_range 1 to (to - 1) (cc) (search rules))
+    rw c.row_count.ensures at (rows_cleared ledger a.n a.k label a.from to _ (omega (arith, c.row_count.ensures))
+    (cases_from_all _ _ _ (RowClear ledger a.n a.k label) (RowBars ledger a.n a.k label) c.all.ensures.ran (YieldsList-from_range a.from to (to - a.from) (cc) (search rules))
     (λ x q k. (search (rules, tests), told_clear ledger a.n a.k label judged c.hold.ensures x (let told : ToldBy judged a.n x true = search (rules, tests) in told)))
     (λ x q k. told_bars ledger a.n a.k label judged c.hold.ensures x (let told : ToldBy judged a.n x false = search (rules, tests) in told))))

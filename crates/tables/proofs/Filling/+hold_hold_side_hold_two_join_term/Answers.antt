@@ -4,7 +4,7 @@ use native.Mathlib.Omega.{arith}
 use Prim.Native.Nat.{◌%◌}
 use Rattle.words.specs.FourWords.{side_of}
 use Rattle.tables.specs.Filling.{nth_row, joined_row}
-use Rattle.tables.proofs.Holding.{holding_each, holding_joined, holding_last, holding_first, holding_side, holding_other, name_rows, top_rows, bottom_rows}
+use Rattle.tables.proofs.Holding.{holding_each, holding_joined, holding_last, holding_turned, holding_side, holding_other, name_rows, top_rows, bottom_rows}
 use Rattle.tables.proofs.Rows.{each_weak}
 use Rattle.tables.proofs.Joined.{joining_each, row_joined}
 use Rattle.tables.proofs.Places.{held_at, two_first, two_last, at_end, at_name, at_top, at_bottom, at_joined, at_side, at_found, sides_same, sides_other}
@@ -86,7 +86,7 @@ hold_side-returns-clause-held t c =
 pub hold_two-returns-in-Some-clause-held : goal.hold_two-returns-in-Some-clause-held
 hold_two-returns-in-Some-clause-held t c =
     two_first c.args.self.now.codes.now c.args.at c.args.joiner (at_found c.args.self.now.codes.now c.args.at _ (sym c.name_at.ensures ∙ c.in-Some.is))
-    (holding_first _ _ _ _ _ _ _ _ _ c.hold-second.ensures.held (c.join_name.ensures (side_of c.args.self.now.side)))
+    (holding_turned _ _ _ _ _ _ _ _ (holding_last _ _ _ _ _ _ _ _ _ c.hold-second.ensures.held (c.join_name.ensures (side_of c.args.self.now.side))))
 
 pub hold_two-returns-in-Some-clause-past : goal.hold_two-returns-in-Some-clause-past
 hold_two-returns-in-Some-clause-past t c =

@@ -121,7 +121,9 @@ pub fn further(found: Option<Refuter>, g: u64, left: Rows) -> Option<Refuter>
     found
 }
 
-// The first refuter, all rows of p and of q being held first: on the see side, else on the change side, whose first one is kept while the see side is searched to its end.
+// The first refuter: on the see side, else on the change side, whose first one is kept while the see side is searched to its end. All rows of p and of q are
+// held first.
+// Kept: relation, n, p and q go on as they came, here and in those that ask: a value of them would be made by each and taken apart here.
 pub fn first_refuter<S: Sieve>(
     relation: Relation,
     n: u64,

@@ -1,18 +1,20 @@
 -- The algebra is exactly what the coalitions say: acts-for, flows-to, which grants count, and the answers yes.
-use mathlib.Core.Path.{◌≡◌, refl}
+use mathlib.Core.Path.{◌≡◌, refl, sym, ap₂, ◌∙◌}
 use mathlib.Core.Logic.Iff
 use mathlib.Core.Logic.{◌↔◌}
-use mathlib.Core.Bool.{true}
+use mathlib.Core.Bool.{true, ◌&&◌}
 use mathlib.Core.List.Memᴰ
 use mathlib.Core.List.{List, []}
-use Prim.Native.Nat.{ℕ}
+use Prim.Native.Nat.{ℕ, ◌^◌, ◌<◌}
 use Rattle.model.specs.Sides.{Side, confidentiality, integrity}
 use Rattle.model.specs.Coalitions.{Marks, within}
 use Rattle.model.specs.Terms.{Term, NamesBelow, held}
-use Rattle.model.specs.Grants.{Under, counts_under, Grant, acts_statically, visible, spoken, voice, counting, sound}
+use Rattle.model.specs.Grants.{Under, counts_under, Grant, visible, counting, sound}
 use Rattle.model.specs.Ledgers.{Ledger}
 use Rattle.model.specs.Answers.{Yes}
 use Rattle.model.specs.Questions.{sound_under, flows_to_under, acts_for, flows_to}
+use Rattle.model.specs.Meanings.{Agree}
+use Rattle.model.specs.Voice.{voice, spoken_by_voice}
 use Rattle.model.proofs.Truth.{and_intro, and_left, and_right}
 use Rattle.model.proofs.Search.{within_says}
 use Rattle.model.proofs.Judge.{flows_yes}
@@ -22,9 +24,9 @@ use Rattle.model.proofs.Accepted.{ledger_below}
 use Rattle.demands.specs.Answers.{Asked}
 use Rattle.algebra.specs.Principals.{Principal, conj, project, held_by, Named}
 use Rattle.algebra.specs.Meaning.{meaning}
-use Rattle.algebra.specs.Algebra.{ActsFor, FlowsTo, GrantsBelow, Carries, voice_of, ActsForByCoalitions, FlowsToByCoalitions, StaticIsActsFor, VisibleIsFlowsTo, SpokenIsActsForVoice, YesIsActsFor, YesIsFlowsTo}
+use Rattle.algebra.specs.Algebra.{ActsFor, FlowsTo, GrantsBelow, Carries, voice_of, ActsForByCoalitions, FlowsToByCoalitions, StaticIsActsFor, VisibleIsFlowsTo, SpokenByVoiceIsActsForVoice, YesIsActsFor, YesIsFlowsTo}
 use Rattle.demands.proofs.Asking.{asked_answer, acts_for_exact}
-use Rattle.algebra.proofs.Meanings.{meaning_marks, meaning_named}
+use Rattle.algebra.proofs.Meanings.{meaning_held, meaning_marks, meaning_named}
 use Rattle.algebra.proofs.Soundness.{soundness}
 use Rattle.algebra.proofs.Completeness.{completeness}
 use Rattle.algebra.proofs.Sides.{side_names, voice-held}
@@ -67,19 +69,25 @@ flows_to_terms n G p q fit pn qn =
     rw (meaning_marks p, meaning_marks q) at (by_flows_to n G (meaning p) (meaning q) fit (meaning_named n p pn) (meaning_named n q qn))
 
 -- without grants
-none_below : (n : ℕ) → GrantsBelow n []
+pub none_below : (n : ℕ) → GrantsBelow n []
 none_below n g m = absurd (Memᴰ.not-nil m)
 
 within_carries : (n : ℕ) (s : Side) (p q : Marks) → (within n (p s) (q s) ≡ true) ↔ Carries n [] s p q
 unfolding sound
 within_carries n s p q = (λ e c l good. (within_says n (p s) (q s)).0 e c l, λ f. (within_says n (p s) (q s)).1 (λ c l. f c l refl))
 
-static_carries : (n : ℕ) (p q : Term) → (acts_statically n p q ≡ true) ↔ ((s : Side) → Carries n [] s (held p) (held q))
+-- on each side every coalition of n names that is one of p is one of q
+abbrev pub Everywhere : ℕ → Marks → Marks → Type 0
+Everywhere n p q = (s : Side) (c : ℕ) → c < 2 ^ n → p s c ≡ true → q s c ≡ true
+
+pub statically : (n : ℕ) (p q : Principal) → Named n p → Named n q → ActsFor [] p q ↔ Everywhere n (held_by p) (held_by q)
 unfolding sound
-static_carries n p q = (λ e s c l good. (static_says n p q).0 e s c l, λ f. (static_says n p q).1 (λ s c l. f s c l refl))
+statically n p q pn qn = Iff.trans (by_acts_for n [] p q (none_below n) pn qn) (λ f s c l. f s c l refl, λ f s c l good. f s c l)
 
 pub static_acts : StaticIsActsFor
-static_acts n p q pn qn = Iff.trans (static_carries n p q) (Iff.symm (acts_for_terms n [] p q (none_below n) pn qn))
+static_acts n p q pn qn =
+    Iff.trans (static_says n p q)
+    (Iff.symm (rw (meaning_marks p, meaning_marks q) at (statically n (meaning p) (meaning q) (meaning_named n p pn) (meaning_named n q qn))))
 
 pub visible_flows : VisibleIsFlowsTo
 unfolding visible
@@ -94,26 +102,30 @@ visible_flows n L d Ln dn = Iff.trans (there, back) (Iff.symm (flows_to_terms n 
     back : Carries n [] confidentiality (held L) (held d) × Carries n [] integrity (held d) (held L) → visible n (held L) (held d) ≡ true
     back f = and_intro ((within_carries n confidentiality (held L) (held d)).1 f.0) ((within_carries n integrity (held d) (held L)).1 f.1)
 
--- spoken, as acts-for: on the change side the label's d acts for the voice, and on the see side there is nothing to show
-spoken_carries : (n : ℕ) (q d : Principal) → (spoken n (held_by q) (held_by d) ≡ true) ↔ ((s : Side) → Carries n [] s (held_by (project integrity d)) (held_by (voice_of q)))
-unfolding spoken held_by sound voice
-spoken_carries n q d = (there, back)
-  where
-    there : spoken n (held_by q) (held_by d) ≡ true → (s : Side) → Carries n [] s (held_by (project integrity d)) (held_by (voice_of q))
-    there e confidentiality c l good h = voice-held confidentiality q c
-    there e integrity c l good h = rw voice-held ((within_says n (held_by d integrity) (voice (held_by q) integrity)).0 e c l h)
-
-    back : ((s : Side) → Carries n [] s (held_by (project integrity d)) (held_by (voice_of q))) → spoken n (held_by q) (held_by d) ≡ true
-    back f = (within_says n (held_by d integrity) (voice (held_by q) integrity)).1 (λ c l h. rw voice-held at (f integrity c l refl h))
-
-pub spoken-voice : SpokenIsActsForVoice
+pub voice_named : (n : ℕ) (q : Principal) → Named n q → Named n (voice_of q)
 unfolding voice_of Named
+voice_named n q qn = (side_names n confidentiality q qn, side_names n integrity q qn)
+
+-- Of a principal that is held where V is: to be spoken by V's voice is to act for the principal's. On the change side the two say the same, and on the
+-- see side there is nothing to show.
+pub voice_spoken : (n : ℕ) (V : Marks) (q d : Principal) → Agree n (held_by q) V → Named n q → Named n d
+    → (spoken_by_voice n V (held_by d) ≡ true) ↔ ActsFor [] (project integrity d) (voice_of q)
+unfolding spoken_by_voice held_by voice Named
+voice_spoken n V q d same qn dn = Iff.trans (there, back) (Iff.symm (statically n (project integrity d) (voice_of q) dn (voice_named n q qn)))
+  where
+    agree : (c : ℕ) → c < 2 ^ n → held_by (voice_of q) integrity c ≡ voice V integrity c
+    agree c l = voice-held integrity q c ∙ ap₂ ◌&&◌ (same confidentiality c l) (same integrity c l)
+
+    there : spoken_by_voice n V (held_by d) ≡ true → Everywhere n (held_by (project integrity d)) (held_by (voice_of q))
+    there e confidentiality c l h = voice-held confidentiality q c
+    there e integrity c l h = agree c l ∙ (within_says n (held_by d integrity) (voice V integrity)).0 e c l h
+
+    back : Everywhere n (held_by (project integrity d)) (held_by (voice_of q)) → spoken_by_voice n V (held_by d) ≡ true
+    back f = (within_says n (held_by d integrity) (voice V integrity)).1 (λ c l h. sym (agree c l) ∙ f integrity c l h)
+
+pub spoken-voice : SpokenByVoiceIsActsForVoice
 spoken-voice n q d qn dn =
-    let v = meaning_named n q qn in
-    rw (meaning_marks q, meaning_marks d) at
-    (Iff.trans (spoken_carries n (meaning q) (meaning d))
-    (Iff.symm (by_acts_for n [] (project integrity (meaning d)) (voice_of (meaning q)) (none_below n) (meaning_named n d dn)
-    (side_names n confidentiality (meaning q) v, side_names n integrity (meaning q) v))))
+    rw (meaning_marks d) at (voice_spoken n (held q) (meaning q) (meaning d) (λ s c l. meaning_held q s c) (meaning_named n q qn) (meaning_named n d dn))
 
 -- the grants that count are among the grants
 pub counting_below : (n : ℕ) (u : Under) (gs : List Grant) → GrantsBelow n gs → GrantsBelow n (counting u gs)

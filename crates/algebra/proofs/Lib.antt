@@ -7,3 +7,4 @@ pub mod Completeness
 pub mod Sides
 pub mod Exact
 pub mod SevenRules
+pub mod Subtraction

@@ -34,7 +34,7 @@ rules_sound n G p q d s c l good = kept n G s c l good d
 
 -- The algebra's derivations may pass through any names, and a term may be written with quorums where its meaning has none. So a principal is written as
 -- a term without quorums, in which the weakest stands for the names that are not below n.
-abbrev written : ℕ → Principal → Term
+abbrev pub written : ℕ → Principal → Term
 written n (Principal.name i) = cond (ltb i 12 && ltb i n) (name i) bottom
 written n Principal.top = top
 written n Principal.bottom = bottom
@@ -42,7 +42,7 @@ written n (Principal.conj p q) = conj (written n p) (written n q)
 written n (Principal.disj p q) = disj (written n p) (written n q)
 written n (Principal.project s p) = project s (written n p)
 
-written-names : (n : ℕ) (t : Principal) → NamesBelow n (written n t)
+pub written-names : (n : ℕ) (t : Principal) → NamesBelow n (written n t)
 unfolding NamesBelow
 written-names n (Principal.name i) =
     cond_case (NamesBelow n) (ltb i 12 && ltb i n) (name i) bottom
@@ -55,7 +55,7 @@ written-names n (Principal.disj p q) = (written-names n p, written-names n q)
 written-names n (Principal.project s p) = written-names n p
 
 -- what a principal is written as means it, where its names are below n
-written_meaning : (n : ℕ) (t : Principal) → Named n t → meaning (written n t) ≡ t
+pub written_meaning : (n : ℕ) (t : Principal) → Named n t → meaning (written n t) ≡ t
 unfolding Named meaning
 written_meaning n (Principal.name i) l = rw (lt-ltb i 12 l.0, lt-ltb i n l.1)
 written_meaning n Principal.top l = refl
@@ -81,7 +81,7 @@ module _ (n : ℕ) (G : List Grant) (fit : GrantsBelow n G) where
   back t l = static (written n (meaning t)) t (written-names n (meaning t)) l (rw (written_meaning n (meaning t) (meaning_named n t l)) self)
 
   -- each of the algebra's rules, as written
-  derived : {p q : Principal} → ActsFor G p q → Derives n G (written n p) (written n q)
+  pub derived : {p q : Principal} → ActsFor G p q → Derives n G (written n p) (written n q)
   unfolding meaning
   derived (bot_r {p}) = free p Principal.bottom bot_r
   derived (top_l {p}) = free Principal.top p top_l

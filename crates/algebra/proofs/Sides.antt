@@ -5,7 +5,8 @@ use mathlib.Core.List.Memᴰ
 use mathlib.Core.List.{List, []}
 use Prim.Native.Nat.{ℕ}
 use Rattle.model.specs.Sides.{Side, confidentiality, integrity}
-use Rattle.model.specs.Grants.{Grant, voice}
+use Rattle.model.specs.Grants.{Grant}
+use Rattle.model.specs.Voice.{voice}
 use Rattle.algebra.specs.Principals.{Principal, name, top, bottom, conj, disj, project, held_by, Named}
 use Rattle.algebra.specs.Algebra.{ActsFor, bot_r, top_l, self, proj, proj_r, conj_l₁, conj_l₂, conj_r, disj_l, disj_r₁, disj_r₂, then, distr, conj_project, disj_project, basis, crossed, grant, Same, on_side, normal, voice_of, Unprojected, HasNormalForm, VoiceOfNormalForms, VoiceIsHeld}
 use Rattle.algebra.proofs.Principals.{projection_laws}
@@ -71,7 +72,7 @@ pub normal_form : (t : Principal) → HasNormalForm t
 normal_form t = record { same = λ G. normal-same t; unprojected = λ s. side_unprojected s t }
 
 -- on either side, the part that `on_side` takes out is held where the principal is held on that side
-side_held : (s t : Side) (p : Principal) (c : ℕ) → held_by (on_side s p) t c ≡ held_by p s c
+pub side_held : (s t : Side) (p : Principal) (c : ℕ) → held_by (on_side s p) t c ≡ held_by p s c
 unfolding on_side held_by
 side_held s t (name i) c = refl
 side_held s t top c = refl
@@ -162,7 +163,7 @@ side_acts integrity (crossed confidentiality p) = self
 side_acts integrity (crossed integrity p) = self
 side_acts s (grant m) = absurd (Memᴰ.not-nil m)
 
-voice_acts : {p q : Principal} → ActsFor [] p q → ActsFor [] (voice_of p) (voice_of q)
+pub voice_acts : {p q : Principal} → ActsFor [] p q → ActsFor [] (voice_of p) (voice_of q)
 unfolding voice_of
 voice_acts d = conj_r (conj_l₁ (proj integrity (side_acts _ d))) (conj_l₂ (proj integrity (side_acts _ d)))
 

@@ -6,11 +6,12 @@ use mathlib.Core.List.{List, [], Memᴰ}
 use Rattle.model.specs.Sides.{Side, confidentiality, integrity}
 use Rattle.model.specs.Coalitions.{Marks}
 use Rattle.model.specs.Terms.{Term, NamesBelow, held}
-use Rattle.model.specs.Grants.{Grant, Under, voice, visible, spoken, acts_statically, counting, sound_of}
+use Rattle.model.specs.Grants.{Grant, Under, visible, acts_statically, counting, sound_of}
 use Rattle.model.specs.Ledgers.{Ledger}
 use Rattle.model.specs.Answers.{Yes}
 use Rattle.model.specs.Questions.{acts_for, flows_to}
 use Rattle.model.specs.Meanings.{Holds}
+use Rattle.model.specs.Voice.{voice, spoken_by_voice}
 use Rattle.demands.specs.Answers.{Asked}
 use Rattle.algebra.specs.Principals.{Principal, name, top, bottom, conj, disj, project, held_by, Named}
 use Rattle.algebra.specs.Meaning.{meaning}
@@ -131,11 +132,11 @@ StaticIsActsFor = (n : ℕ) (p q : Term) → NamesBelow n p → NamesBelow n q �
 abbrev pub VisibleIsFlowsTo : Type 0
 VisibleIsFlowsTo = (n : ℕ) (L d : Term) → NamesBelow n L → NamesBelow n d → (visible n (held L) (held d) ≡ true) ↔ FlowsTo [] (meaning d) (meaning L)
 
--- A grant labelled d, of what q may do, is spoken exactly if d's integrity acts for the voice of q.
-abbrev pub SpokenIsActsForVoice : Type 0
-SpokenIsActsForVoice =
+-- A grant labelled d, of what q may do, was spoken by the voice exactly if d's integrity acts for the voice of q.
+abbrev pub SpokenByVoiceIsActsForVoice : Type 0
+SpokenByVoiceIsActsForVoice =
     (n : ℕ) (q d : Term) → NamesBelow n q → NamesBelow n d
-    → (spoken n (held q) (held d) ≡ true) ↔ ActsFor [] (project integrity (meaning d)) (voice_of (meaning q))
+    → (spoken_by_voice n (held q) (held d) ≡ true) ↔ ActsFor [] (project integrity (meaning d)) (voice_of (meaning q))
 
 -- Every principal equals its normal form, whose two parts have no projections.
 pub record HasNormalForm (p : Principal) : Type 0 where

@@ -2,3 +2,4 @@ pub mod Principals
 pub mod Meaning
 pub mod Algebra
 pub mod Rules
+pub mod Gap

@@ -1,9 +1,10 @@
 // FLAM's principal algebra and document 01's coalitions: what the one derives is what the other decides.
 #![tactic(auto)]
 
+pub mod gap;
 pub mod rules;
 
-ghost use Rattle.algebra.specs.Algebra.{HeldWhereMeant, ActsForByCoalitions, FlowsToByCoalitions, StaticIsActsFor, VisibleIsFlowsTo, SpokenIsActsForVoice, NormalForms, VoiceOfNormalForms, VoiceIsHeld, DefinitionsOneAndTwo, YesIsActsFor, YesIsFlowsTo};
+ghost use Rattle.algebra.specs.Algebra.{HeldWhereMeant, ActsForByCoalitions, FlowsToByCoalitions, StaticIsActsFor, VisibleIsFlowsTo, SpokenByVoiceIsActsForVoice, NormalForms, VoiceOfNormalForms, VoiceIsHeld, DefinitionsOneAndTwo, YesIsActsFor, YesIsFlowsTo};
 
 // FLAM has no quorum: a term is held exactly where the principal that it means is held.
 pub fn a_term_is_held_where_its_meaning_is()
@@ -30,9 +31,9 @@ pub fn visible_is_flows_to()
     ensures { VisibleIsFlowsTo }
 {}
 
-// A grant is spoken exactly if its label's integrity acts for the voice of q.
-pub fn spoken_is_acting_for_the_voice()
-    ensures { SpokenIsActsForVoice }
+// A grant was spoken by the voice exactly if its label's integrity acts for the voice of q.
+pub fn spoken_by_the_voice_is_acting_for_it()
+    ensures { SpokenByVoiceIsActsForVoice }
 {}
 
 // Every principal equals its normal form, and so what any term means does.

@@ -1,42 +1,42 @@
--- A coalition's names from m up make no difference to terms whose names are below m, so that a grant is judged in m names as in more. Assumes nothing.
-use mathlib.Core.Path.{◌≡◌, refl, sym, ap, ap₂, ◌∙◌, subst}
-use mathlib.Core.Bool.{Bool, true, false, true≢false, not, ◌&&◌, ◌||◌}
+-- A coalition's names from m up make no difference to terms whose names are below m, so that a grant is judged in fewer names than there are. Assumes nothing.
+use mathlib.Core.Path.{◌≡◌, refl, sym, ap, ap₂, ◌∙◌, subst, fun_ext}
+use mathlib.Core.Bool.{Bool, true, false, not, ◌&&◌, ◌||◌}
 use mathlib.Core.List.{List, [], ◌∷◌}
 use Prim.Native.Nat.{ℕ, zero, suc, ◌+◌, ◌-◌, ◌*◌, ◌/◌, ◌%◌, ◌^◌, ◌≤◌, ◌<◌, max}
-use native.Mathlib.Nat.{mod-lt, pow-suc}
+use native.Mathlib.Nat.{mod-lt, pow-suc, mul-suc, zero-add, add-mul-mod_self_left}
 use native.Mathlib.Decide.{dec_lt}
 use native.Mathlib.Omega.{arith}
 use lib.Arith.{mod-mul}
 use lib.Dec.{eqb, leb, ltb}
 use lib.ListN.{length, take, drop, get_or, length-take}
-use lib.Pow.{pow_pos, pow_mono}
+use lib.Pow.{pow_pos, pow_mono, pow-add}
 use lib.Seq.{get_or-take}
-use borrow.Author.Tests.{lt-ltb, le-ltb}
+use borrow.Author.Tests.{lt-ltb, le-ltb, eq-eqb, not-true}
 use Rattle.model.specs.Sides.{Side, confidentiality, integrity}
-use Rattle.model.specs.Coalitions.{member, Marks, every, mark}
+use Rattle.model.specs.Coalitions.{member, every, mark}
 use Rattle.model.specs.Terms.{Term, name, top, bottom, conj, disj, project, quorum, Terms, nil, cons, NamesBelow, PartsBelow, held, held_count}
-use Rattle.model.specs.Grants.{Grant, GrantMarks, marks_of, voice, heard}
-use Rattle.model.proofs.Truth.{bool_ext}
+use Rattle.model.specs.Grants.{Grant, marks_of, heard}
+use Rattle.model.specs.Meanings.{Subset}
+use Rattle.model.proofs.Truth.{clash, false_of, bool_ext, and_intro, and_left, and_right, or_left, or_right, or_elim}
 use Rattle.model.proofs.Search.{every_elim, every_intro}
 use Rattle.model.proofs.Packed.{member-zero, member-suc}
+use Rattle.model.proofs.Monotone.{held_monotone}
 use Rattle.words.specs.AnyBytes.{taken, term_in}
-use Rattle.words.specs.Evaluation.{job_of, row_count, ClearTo}
+use Rattle.words.specs.Evaluation.{job_of, row_count}
 use Rattle.words.proofs.AnyBytes.{names-taken}
-use Rattle.words.proofs.Names.{rows_few, rows_few_of}
+use Rattle.words.proofs.Names.{rows_full, rows_few, rows_few_of}
 use Rattle.words.proofs.Searches.{clear_all}
 use Rattle.ledgers.specs.Places.{q_place, label_place}
-use Rattle.counting.specs.Counted.{grant_in, bars_counting, bars_at, heard_at, NamesAt, NeededOf, ClearAt, JudgedAt, ClearedTo}
-use Rattle.counting.specs.declared.Judged.{Judged}
-use Rattle.tables.specs.Filling.{rows_of}
+use Rattle.counting.specs.Counted.{grant_in, hides, breaks_some, bars_counting, bars_at, joined_by, bars_with, none_bars, heard_at, NamesAt, NeededOf, ClearAt, FirstCleared}
 use Rattle.std.specs.Bool.{MatchBool}
 use Rattle.std.specs.List.{filter, fold, AllWithin, HoldsAt, range_with_len}
 use Rattle.std.proofs.lemmas.List.FromFn.{get_or-range_with_len, length-range_with_len}
 use Rattle.words.specs.declared.Row.{Row}
-use Rattle.words.specs.FourWords.{RowAt, RowsAt, empty_row}
+use Rattle.words.specs.FourWords.{RowAt, empty_row}
 use Rattle.words.proofs.FourWords.{row_empty}
 use Rattle.words.proofs.Searches.{clear_not}
 use Rattle.counting.proofs.Bars.{heard_bars}
-use Rattle.counting.proofs.Tests.{marked_job}
+use Rattle.counting.proofs.Tests.{none_further, marked_job}
 
 -- the m + 1 low digits
 digits : (c m : ℕ) → c % 2 ^ suc m ≡ (c / 2 % 2 ^ m) * 2 + c % 2
@@ -86,21 +86,88 @@ mutual
   all_more a b nil more h = tt
   all_more a b (cons t ts) more h = (names_more a b t more h.0, all_more a b ts more h.1)
 
--- a test that the further names make no difference to
-every_few : (f : ℕ → Bool) (m n : ℕ) → m ≤ n → ((c : ℕ) → f (c % 2 ^ m) ≡ f c) → every f (2 ^ m) ≡ every f (2 ^ n)
-every_few f m n h same =
-    bool_ext (every f (2 ^ m)) (every f (2 ^ n))
-    (λ e. every_intro f (2 ^ n) (λ c _. sym (same c) ∙ every_elim f (2 ^ m) e (c % 2 ^ m) (mod-lt c (pow_pos m))))
-    (λ e. every_intro f (2 ^ m) (λ c l. every_elim f (2 ^ n) e c (omega (arith, pow_mono h))))
+-- ---- p asked with all further names among the members
 
--- the grant is heard asked of m names exactly if it is asked of n
-pub heard_few : (m n : ℕ) (L : Term) (g : Grant) → m ≤ n → NamesBelow m L → NamesBelow m g.label → NamesBelow m g.q → heard m (held L) (marks_of g) ≡ heard n (held L) (marks_of g)
-unfolding bars_counting voice
-heard_few m n L g h a b d =
-    heard_bars m (held L) (marks_of g)
-    ∙ every_few (λ c. not (bars_counting (held L) (marks_of g) c)) m n h (λ c.
-    rw (held_low m L confidentiality c a, held_low m L integrity c a, held_low m g.label confidentiality c b, held_low m g.label integrity c b, held_low m g.q confidentiality c d, held_low m g.q integrity c d))
-    ∙ sym (heard_bars n (held L) (marks_of g))
+-- above the low r names all of n are members
+member_above : (i r n x : ℕ) → r ≤ i → i < n → x < 2 ^ r → member i (x + (2 ^ n - 2 ^ r)) ≡ true
+member_above i r zero x h l b = absurd (omega arith)
+member_above zero zero (suc n) x h l b =
+    let e : (x + (2 ^ suc n - 2 ^ 0)) % 2 ≡ 1 = omega (arith, pow-suc 2 n, pow_pos n) in
+    member-zero (x + (2 ^ suc n - 2 ^ 0)) ∙ eq-eqb _ 1 e
+member_above zero (suc r) (suc n) x h l b = absurd (omega arith)
+member_above (suc i) zero (suc n) x h l b =
+    let e : (x + (2 ^ suc n - 2 ^ 0)) / 2 ≡ x + (2 ^ n - 2 ^ 0) = omega (arith, pow-suc 2 n, pow_pos n) in
+    member-suc i (x + (2 ^ suc n - 2 ^ 0)) ∙ ap (member i) e ∙ member_above i zero n x (omega arith) (omega arith) b
+member_above (suc i) (suc r) (suc n) x h l b =
+    let m : r ≤ n = omega arith in
+    let e : (x + (2 ^ suc n - 2 ^ suc r)) / 2 ≡ x / 2 + (2 ^ n - 2 ^ r) = omega (arith, pow-suc 2 n, pow-suc 2 r, pow_mono m) in
+    member-suc i (x + (2 ^ suc n - 2 ^ suc r)) ∙ ap (member i) e ∙ member_above i r n (x / 2) (omega arith) (omega arith) (omega (arith, pow-suc 2 r))
+
+-- below them nothing is added
+low_same : (r n c : ℕ) → r ≤ n → (c + (2 ^ n - 2 ^ r)) % 2 ^ r ≡ c % 2 ^ r
+low_same r n c h =
+    let e : r + (n - r) ≡ n = omega arith in
+    let whole : 2 ^ n ≡ 2 ^ r * 2 ^ (n - r) = ap (λ (x : ℕ). 2 ^ x) (sym e) ∙ pow-add 2 r (n - r) in
+    let one : 2 ^ (n - r) ≡ suc (2 ^ (n - r) - 1) = omega (arith, pow_pos (n - r)) in
+    let last : 2 ^ r * 2 ^ (n - r) ≡ 2 ^ r * suc (2 ^ (n - r) - 1) = ap (λ (x : ℕ). 2 ^ r * x) one in
+    let times : 2 ^ n - 2 ^ r ≡ 2 ^ r * (2 ^ (n - r) - 1) = omega (arith, mul-suc (2 ^ r) (2 ^ (n - r) - 1)) in
+    ap (λ (x : ℕ). (c + x) % 2 ^ r) times ∙ add-mul-mod_self_left c (2 ^ r) (2 ^ (n - r) - 1)
+
+-- where more hold p, those that barred the grant still do
+still_bars : (u d a b x y v w : Bool) → (a ≡ true → b ≡ true) → (v ≡ true → w ≡ true)
+    → (u || (d && ((a && not x) || (v && not y)))) ≡ true → (u || (d && ((b && not x) || (w && not y)))) ≡ true
+still_bars true d a b x y v w f h e = refl
+still_bars false false a b x y v w f h e = e
+still_bars false true a b x y v w f h e =
+    or_elim (a && not x) (v && not y)
+    (λ k. or_left (w && not y) (and_intro (f (and_left a (not x) k)) (and_right a (not x) k)))
+    (λ k. or_right (b && not x) (and_intro (h (and_left v (not y) k)) (and_right v (not y) k)))
+    e
+
+module _ (r n : ℕ) (L : Term) (g : Grant) (few : r ≤ n) (a : NamesBelow r L) (b : NamesBelow r g.label) (d : NamesBelow r g.q) where
+  abbrev more : ℕ
+  more = 2 ^ n - 2 ^ r
+
+  held_more : (t : Term) (s : Side) (c : ℕ) → NamesBelow r t → held t s (c + more) ≡ held t s c
+  held_more t s c h = sym (held_low r t s (c + (2 ^ n - 2 ^ r)) h) ∙ ap (held t s) (low_same r n c few) ∙ held_low r t s c h
+
+  -- a coalition is within its part of the low names together with all others
+  within_more : (c : ℕ) → Subset n c (c % 2 ^ r + more)
+  within_more c i h m = elim (dec_lt i r) [
+    | yes l ↦ sym (member_low i r (c % 2 ^ r + (2 ^ n - 2 ^ r)) l) ∙ ap (member i) (low_same r n (c % 2 ^ r) few) ∙ member_low i r (c % 2 ^ r) l ∙ member_low i r c l ∙ m
+    | no l ↦ member_above i r n (c % 2 ^ r) (omega arith) h (mod-lt c (pow_pos r))
+  ]
+
+  abbrev bars : ℕ → Bool
+  bars = bars_counting (held L) (marks_of g)
+
+  abbrev bars_more : ℕ → Bool
+  bars_more = bars_counting (held L) (joined_by more (marks_of g))
+
+  more_same : (c : ℕ) → bars (c + more) ≡ bars_more c
+  unfolding hides breaks_some bars_counting
+  more_same c = rw (held_more L confidentiality c a, held_more L integrity c a, held_more g.label confidentiality c b, held_more g.label integrity c b, held_more g.q confidentiality c d, held_more g.q integrity c d)
+
+  more_bars : (c : ℕ) → c < 2 ^ n → bars c ≡ true → bars_more (c % 2 ^ r) ≡ true
+  unfolding hides breaks_some bars_counting
+  more_bars c l e =
+      rw (held_low r L confidentiality c a, held_low r L integrity c a, held_low r g.label confidentiality c b, held_low r g.label integrity c b, held_low r g.q confidentiality c d, held_low r g.q integrity c d)
+      (still_bars _ (held g.label integrity c) (held g.p confidentiality c) _ (held g.q confidentiality c) (held g.q integrity c) (held g.p integrity c) _
+      (held_monotone n g.p confidentiality c (c % 2 ^ r + more) l (within_more c)) (held_monotone n g.p integrity c (c % 2 ^ r + more) l (within_more c)) e)
+
+  -- the grant is heard exactly if no coalition of the low names bars it so
+  heard_more : every (λ c. not (bars_more c)) (2 ^ r) ≡ heard n (held L) (marks_of g)
+  heard_more =
+      bool_ext (every (λ c. not (bars_more c)) (2 ^ r)) (every (λ c. not (bars c)) (2 ^ n)) there back
+      ∙ sym (heard_bars n (held L) (marks_of g) (held_monotone n g.label integrity))
+    where
+      there : every (λ c. not (bars_more c)) (2 ^ r) ≡ true → every (λ c. not (bars c)) (2 ^ n) ≡ true
+      there e = every_intro (λ c. not (bars c)) (2 ^ n) (λ c l. ap not (false_of (bars c) (λ t.
+          clash (more_bars c l t) (not-true (bars_more (c % 2 ^ r)) (every_elim (λ c. not (bars_more c)) (2 ^ r) e (c % 2 ^ r) (mod-lt c (pow_pos r)))))))
+
+      back : every (λ c. not (bars c)) (2 ^ n) ≡ true → every (λ c. not (bars_more c)) (2 ^ r) ≡ true
+      back e = every_intro (λ c. not (bars_more c)) (2 ^ r) (λ c l.
+          ap not (sym (more_same c)) ∙ every_elim (λ c. not (bars c)) (2 ^ n) e (c + (2 ^ n - 2 ^ r)) (omega (arith, pow_mono few)))
 
 -- ---- the names that the code finds
 
@@ -144,105 +211,80 @@ pub needed_few : (ledger : List ℕ) (n k : ℕ) (label : List ℕ) (a b r : ℕ
 needed_few ledger n k label a b r h L d q =
     let up : a ≤ b = d.most in
     let up' : b ≤ r = q.most in
-    record {
-      few = omega arith;
-      alike = heard_few (job_of r) (job_of n) (term_in label) (grant_in ledger k) (omega arith)
-          (names_more a (job_of r) _ (λ i l m. omega arith) L.below) (names_more b (job_of r) _ (λ i l m. omega arith) d.below) (names_more r (job_of r) _ (λ i l m. omega arith) q.below);
-    }
+    let eight : 8 ≤ r = omega (arith, L.most) in
+    let worth : 2 ^ job_of n - 2 ^ job_of r ≡ 256 * (row_count n - row_count r) = omega (arith, rows_full (job_of n) (omega arith), rows_full (job_of r) (omega arith)) in
+    subst (λ (more : ℕ). every (λ c. not (bars_counting (held (term_in label)) (joined_by more (marks_of (grant_in ledger k))) c)) (2 ^ job_of r) ≡ heard_at ledger n label k) worth
+    (heard_more (job_of r) (job_of n) (term_in label) (grant_in ledger k) (omega arith)
+    (names_more a (job_of r) _ (λ i l m. omega arith) L.below) (names_more b (job_of r) _ (λ i l m. omega arith) d.below) (names_more r (job_of r) _ (λ i l m. omega arith) q.below))
 
 -- all n names are enough
 pub needed_all : (ledger : List ℕ) (n k : ℕ) (label : List ℕ) → NeededOf ledger n k label n
-needed_all ledger n k label = record { few = omega arith; alike = refl }
-
--- what holds at no coalition of n names holds at none of m
-pub clear_fewer : (m n : ℕ) (f : ℕ → Bool) (g : ℕ) → m ≤ n → ClearTo n f g → ClearTo m f g
-unfolding mark
-clear_fewer m n f g h clear c l = elim (dec_lt c (2 ^ m)) [
-  | yes b ↦ (let e = lt-ltb c (2 ^ n) (omega (arith, pow_mono h)) in rw (lt-ltb c (2 ^ m) b) (rw e at (clear c l)))
-  | no b ↦ rw (le-ltb c (2 ^ m) (omega arith))
-]
+needed_all ledger n k label =
+    let none : row_count n - row_count n ≡ 0 = omega arith in
+    let g = marks_of (grant_in ledger k) in
+    rw none
+    (ap (λ (f : ℕ → Bool). every f (2 ^ job_of n)) (fun_ext (λ c. ap not (none_further (held (term_in label)) g c)))
+    ∙ sym (heard_bars (job_of n) (held (term_in label)) g (held_monotone (job_of n) (grant_in ledger k).label integrity)))
 
 -- ---- a row that is looked at, and all of them
 
--- no coalition of row g bars the grant, and some coalition does, so that it is not heard
-unfoldable pub RowClear : List ℕ → ℕ → ℕ → List ℕ → ℕ → Type 0
-RowClear ledger n k label g = g < row_count n → (c : ℕ) → 256 * g ≤ c → c < 256 * g + 256 → mark (job_of n) (bars_at ledger label k) c ≡ false
+-- no coalition of row g bars the grant, p being asked so many rows further on, and some coalition of a row does
+unfoldable pub RowClear : List ℕ → List ℕ → ℕ → ℕ → ℕ → ℕ → Type 0
+RowClear ledger label k rows n g = g < row_count n → (c : ℕ) → 256 * g ≤ c → c < 256 * g + 256 → mark (job_of n) (bars_with ledger label k rows) c ≡ false
 
-unfoldable pub RowBars : List ℕ → ℕ → ℕ → List ℕ → ℕ → Type 0
-RowBars ledger n k label g = g < row_count n → heard_at ledger n label k ≡ false
+unfoldable pub RowBars : List ℕ → List ℕ → ℕ → ℕ → ℕ → ℕ → Type 0
+RowBars ledger label k rows n g = g < row_count n → none_bars ledger label k rows n ≡ false
 
--- what row g of tables tells
-abbrev pub ToldBy : Judged → ℕ → ℕ → Bool → Type 0
-ToldBy judged n g r = (L : Marks) (d : GrantMarks) → RowsAt L g (rows_of judged.under (g % 16)) → RowsAt d.label g (rows_of judged.own (g % 16)) → RowsAt d.q g (rows_of judged.q (g % 16))
-    → ClearAt (mark n (bars_counting L d)) g r
+-- what a row of tables tells
+abbrev pub ToldBy : List ℕ → List ℕ → ℕ → ℕ → ℕ → ℕ → Bool → Type 0
+ToldBy ledger label k rows n g r = g < row_count n → g + rows < 2 ^ 64 → ClearAt (mark n (bars_with ledger label k rows)) g r
 
-module _ (ledger : List ℕ) (n k : ℕ) (label : List ℕ) where
-  module _ (g : ℕ) (l : g < row_count n) (x : Row) (r : RowAt (mark n (bars_at ledger label k)) g x) where
-    row_job : RowAt (mark (job_of n) (bars_at ledger label k)) g x
-    row_job = marked_job n g (bars_at ledger label k) x (omega (arith, rows_few n)) r
+module _ (ledger label : List ℕ) (k rows n : ℕ) (few : rows ≤ 16) where
+  -- the row's coalitions among those of the job
+  row_job : (g : ℕ) (x : Row) → g < row_count n → RowAt (mark n (bars_with ledger label k rows)) g x → RowAt (mark (job_of n) (bars_with ledger label k rows)) g x
+  row_job g x l r = marked_job n g (bars_with ledger label k rows) x (omega (arith, rows_few n)) r
 
-    row_clear : true ≡ empty_row x → (c : ℕ) → 256 * g ≤ c → c < 256 * g + 256 → mark (job_of n) (bars_at ledger label k) c ≡ false
-    row_clear e = row_empty (mark (job_of n) (bars_at ledger label k)) g x row_job (sym e)
+  pub told_clear : (g : ℕ) → ToldBy ledger label k rows n g true → RowClear ledger label k rows n g
+  unfolding RowClear
+  told_clear g h l = let d = h l (omega (arith, rows_few n)) in row_empty (mark (job_of n) (bars_with ledger label k rows)) g d.row (row_job g d.row l d.is) (sym d.told)
 
-    row_bars : false ≡ empty_row x → heard_at ledger n label k ≡ false
-    row_bars e = heard_bars (job_of n) _ (marks_of (grant_in ledger k)) ∙ sym (clear_not (job_of n) (bars_at ledger label k) _ _ row_job (sym e))
+  pub told_bars : (g : ℕ) → ToldBy ledger label k rows n g false → RowBars ledger label k rows n g
+  unfolding RowBars
+  told_bars g h l = let d = h l (omega (arith, rows_few n)) in sym (clear_not (job_of n) (bars_with ledger label k rows) g d.row (row_job g d.row l d.is) (sym d.told))
 
-  -- what a row of tables tells of any label and grant, it tells of those that they hold
-  judged_row : (judged : Judged) → JudgedAt ledger n k label judged → (r : Bool) (g : ℕ) → ToldBy judged n g r → g < row_count n → ClearAt (mark n (bars_at ledger label k)) g r
-  judged_row judged d r g h l =
-      let small : g % 16 ≡ g = omega (arith, rows_few n) in
-      rw small at h (held (term_in label)) (marks_of (grant_in ledger k)) (d.under g l) (d.own g l) (d.q g l)
-
-  module _ (judged : Judged) (j : JudgedAt ledger n k label judged) (g : ℕ) where
-    pub told_clear : ToldBy judged n g true → RowClear ledger n k label g
-    unfolding RowClear
-    told_clear h l = let d = judged_row judged j true g h l in row_clear g l d.row d.is d.told
-
-    pub told_bars : ToldBy judged n g false → RowBars ledger n k label g
-    unfolding RowBars
-    told_bars h l = let d = judged_row judged j false g h l in row_bars g l d.row d.is d.told
-
-  -- the first row alone
-  pub first_cleared : (x : Row) (r : Bool) → RowAt (mark n (bars_at ledger label k)) 0 x → r ≡ empty_row x → ClearedTo ledger n k label 0 1 r
-  first_cleared x r d e = let one : 0 < row_count n = pow_pos (job_of n - 8) in record {
-    clear = λ t before c h. row_clear 0 one x d (sym t ∙ e) c (omega arith) (omega arith);
-    barred = λ f. row_bars 0 one x d (sym f ∙ e);
-  }
-
-  pub rows_cleared : (from to : ℕ) (r : Bool) → to ≤ row_count n
-      → MatchBool r (AllWithin (RowClear ledger n k label) (range_with_len from (to - from)) 0 (length (range_with_len from (to - from))))
-      ((i : ℕ) × (i < length (range_with_len from (to - from))) × HoldsAt (RowBars ledger n k label) (range_with_len from (to - from)) i)
-      → ClearedTo ledger n k label from to r
+  pub rows_cleared : (r : Bool) (to : ℕ) → to ≡ row_count n
+      → MatchBool r (AllWithin (RowClear ledger label k rows n) (range_with_len 0 to) 0 (length (range_with_len 0 to)))
+      ((i : ℕ) × (i < length (range_with_len 0 to)) × HoldsAt (RowBars ledger label k rows n) (range_with_len 0 to) i)
+      → r ≡ none_bars ledger label k rows n
   unfolding RowClear RowBars
-  rows_cleared from to true few m = record {
-    clear = λ _ before c h. elim (dec_lt c (256 * from)) [
-      | yes l ↦ before c l
-      | no l ↦ (
-          let g = c / 256 in
-          let at : from + (g - from) ≡ g = omega arith in
-          let there : get_or (range_with_len from (to - from)) (g - from) 0 ≡ g = get_or-range_with_len from (to - from) (g - from) 0 (omega arith) ∙ at in
-          (rw there at (m (g - from) 0 (omega arith) (omega (arith, length-range_with_len from (to - from))))) (omega arith) c (omega arith) (omega arith))
-    ];
-    barred = λ e. absurd (true≢false e);
-  }
-  rows_cleared from to false few m = record {
-    clear = λ e. absurd (true≢false (sym e));
-    barred = λ _.
-        let there : get_or (range_with_len from (to - from)) m.0 0 ≡ from + m.0 = get_or-range_with_len from (to - from) m.0 0 (omega (arith, m.1, length-range_with_len from (to - from))) in
-        (rw there at (m.2 0)) (omega (arith, m.1, length-range_with_len from (to - from)));
-  }
+  rows_cleared true to e m = clear_all (job_of n) (bars_with ledger label k rows) (omega arith) (λ c h.
+      let g = c / 256 in
+      let below : g < to = omega (arith, rows_few_of n) in
+      let there : get_or (range_with_len 0 to) g 0 ≡ g = get_or-range_with_len 0 to g 0 below ∙ zero-add g in
+      (rw there at (m g 0 (omega arith) (omega (arith, length-range_with_len 0 to)))) (omega arith) c (omega arith) (omega arith))
+  rows_cleared false to e m =
+      let below : m.0 < to = omega (arith, m.1, length-range_with_len 0 to) in
+      let there : get_or (range_with_len 0 to) m.0 0 ≡ m.0 = get_or-range_with_len 0 to m.0 0 below ∙ zero-add m.0 in
+      sym ((rw there at (m.2 0)) (omega arith))
 
--- ---- all rows looked at
+-- ---- the first row alone
+module _ (ledger : List ℕ) (n k : ℕ) (label : List ℕ) (x : Row) (d : RowAt (mark n (bars_at ledger label k)) 0 x) where
+  first_job : RowAt (mark (job_of n) (bars_at ledger label k)) 0 x
+  first_job = marked_job n 0 (bars_at ledger label k) x (omega arith) d
 
-module _ (ledger : List ℕ) (k : ℕ) (label : List ℕ) where
-  -- no coalition of the job bars the grant
-  pub heard_clear : (n g : ℕ) → g ≡ row_count n → ClearTo (job_of n) (bars_at ledger label k) g → true ≡ heard_at ledger n label k
-  heard_clear n g e clear =
-      let all : g ≡ row_count (job_of n) = e ∙ sym (rows_few_of n) in
-      clear_all (job_of n) (bars_at ledger label k) (omega arith) (subst (ClearTo (job_of n) (bars_at ledger label k)) all clear) ∙ sym (heard_bars (job_of n) (held (term_in label)) (marks_of (grant_in ledger k)))
+  heard_all : heard_at ledger n label k ≡ every (λ c. not (bars_at ledger label k c)) (2 ^ job_of n)
+  heard_all = heard_bars (job_of n) (held (term_in label)) (marks_of (grant_in ledger k)) (held_monotone (job_of n) (grant_in ledger k).label integrity)
 
-  -- by the first row, and the others of the names that are needed
-  pub heard_rest : (n m rows : ℕ) (r : Bool) → rows ≡ row_count m → ClearTo (job_of n) (bars_at ledger label k) 1 → NeededOf ledger n k label m → ClearedTo ledger m k label 1 rows r → r ≡ heard_at ledger n label k
-  heard_rest n m rows false e first needed rest = sym (rest.barred refl) ∙ needed.alike
-  heard_rest n m rows true e first needed rest =
-      heard_clear m rows e (rest.clear refl (clear_fewer (job_of m) (job_of n) (bars_at ledger label k) 1 (omega (arith, needed.few)) first)) ∙ needed.alike
+  pub first_cleared : (r : Bool) → r ≡ empty_row x → FirstCleared ledger n k label r
+  first_cleared r e = record { barred = λ f. bars (sym f ∙ e); alone = λ h. by r e h }
+    where
+      bars : false ≡ empty_row x → heard_at ledger n label k ≡ false
+      bars e = heard_all ∙ sym (clear_not (job_of n) (bars_at ledger label k) 0 x first_job (sym e))
+
+      by : (r : Bool) → r ≡ empty_row x → n ≤ 8 → r ≡ heard_at ledger n label k
+      by true e h =
+          let none : job_of n - 8 ≡ 0 = omega arith in
+          let one : row_count (job_of n) ≡ 1 = rows_few_of n ∙ ap (λ (x : ℕ). 2 ^ x) none in
+          clear_all (job_of n) (bars_at ledger label k) (omega arith)
+          (λ c h. row_empty (mark (job_of n) (bars_at ledger label k)) 0 x first_job (sym e) c (omega arith) (omega (arith, one))) ∙ sym heard_all
+      by false e h = sym (bars e)

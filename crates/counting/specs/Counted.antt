@@ -1,15 +1,16 @@
--- Which grants count, on any bytes (document 01, "Grants that count"; document 02, K2). Assumes nothing: these are definitions.
-use Rattle.std.specs.Prelude.{◌≡◌, Bool, true, false, cond, ◌&&◌, ◌||◌, List, ℕ, ◌+◌, ◌-◌, ◌^◌, ◌≤◌, ◌<◌, ltb, drop}
+-- Which grants count, on any bytes (document 01, "Grants that count"; document 02, K2 and K6). Assumes nothing: these are definitions.
+use Rattle.std.specs.Prelude.{◌≡◌, Bool, false, cond, not, ◌&&◌, ◌||◌, List, ℕ, ◌+◌, ◌-◌, ◌*◌, ◌^◌, ◌≤◌, ◌<◌, ltb, drop}
 use Rattle.model.specs.Sides.{confidentiality, integrity}
 use Rattle.model.specs.Bytes.{four_bytes}
-use Rattle.model.specs.Coalitions.{member, Marks, packed}
+use Rattle.model.specs.Coalitions.{member, Marks, every, packed}
 use Rattle.model.specs.Terms.{NamesBelow, held}
 use Rattle.model.specs.Dates.{in_days}
-use Rattle.model.specs.Grants.{Grant, GrantMarks, marks_of, voice, heard, under, counts_under}
+use Rattle.model.specs.Grants.{Grant, GrantMarks, marks_of, breaks, heard, under, counts_under}
 use Rattle.words.specs.AnyBytes.{term_in}
 use Rattle.words.specs.declared.Row.{Row}
+use Rattle.words.specs.declared.Rows.{Rows}
 use Rattle.words.specs.FourWords.{RowAt, RowsAt, lacks, empty_row}
-use Rattle.words.specs.Evaluation.{job_of, row_count, ClearTo}
+use Rattle.words.specs.Evaluation.{job_of, row_count}
 use Rattle.ledgers.specs.Places.{p_place, q_place, label_place, days_place}
 use Rattle.tables.specs.Filling.{rows_of}
 use Rattle.counting.specs.declared.Known.{Known}
@@ -25,15 +26,33 @@ grant_in ledger k = record {
   last = four_bytes (days_place k + 4) ledger;
 }
 
--- coalition c shows that the grant is not visible under L, or not spoken
+-- coalition c shows that a grant labelled d is not visible under L
+unfoldable pub hides : Marks → Marks → ℕ → Bool
+hides L d c = lacks (L confidentiality) (d confidentiality) c || lacks (d integrity) (L integrity) c
+
+-- it breaks the grant, on some side
+unfoldable pub breaks_some : GrantMarks → ℕ → Bool
+breaks_some g c = breaks g confidentiality c || breaks g integrity c
+
+-- It shows that the grant is not visible under L, or not spoken: it holds the grant's label on the change side, and breaks the grant.
 unfoldable pub bars_counting : Marks → GrantMarks → ℕ → Bool
-bars_counting L g c =
-    (lacks (L confidentiality) (g.label confidentiality) c || lacks (g.label integrity) (L integrity) c)
-    || lacks (g.label integrity) (voice g.q integrity) c
+bars_counting L g c = hides L g.label c || (g.label integrity c && breaks_some g c)
 
 -- and of grant k under the label
 abbrev pub bars_at : List ℕ → List ℕ → ℕ → ℕ → Bool
 bars_at ledger label k = bars_counting (held (term_in label)) (marks_of (grant_in ledger k))
+
+-- the sets of a grant, its p being asked of coalitions with further members: so much is added to their numbers
+abbrev pub joined_by : ℕ → GrantMarks → GrantMarks
+joined_by more g = record { p = λ s c. g.p s (c + more); q = g.q; label = g.label }
+
+-- c does so of grant k, p being asked so many rows further on
+abbrev pub bars_with : List ℕ → List ℕ → ℕ → ℕ → ℕ → Bool
+bars_with ledger label k rows = bars_counting (held (term_in label)) (joined_by (256 * rows) (marks_of (grant_in ledger k)))
+
+-- no coalition of n names does
+abbrev pub none_bars : List ℕ → List ℕ → ℕ → ℕ → ℕ → Bool
+none_bars ledger label k rows n = every (λ c. not (bars_with ledger label k rows c)) (2 ^ job_of n)
 
 -- grant k is visible under the label, and spoken
 abbrev pub heard_at : List ℕ → ℕ → List ℕ → ℕ → Bool
@@ -75,10 +94,15 @@ pub record NamesAt (bytes : List ℕ) (at least r : ℕ) : Type 0 where
   pub most : least ≤ r
   pub below : NamesBelow r (term_in (drop at bytes))
 
--- Asked of the coalitions of r names, no more than n, grant k is heard under the label exactly if it is asked of those of n.
-pub record NeededOf (ledger : List ℕ) (n k : ℕ) (label : List ℕ) (r : ℕ) : Type 0 where
-  pub few : r ≤ n
-  pub alike : heard_at ledger r label k ≡ heard_at ledger n label k
+-- Grant k is heard under the label exactly if no coalition of r of the n names bars it where p is asked with all the others among the members: in the last rows.
+abbrev pub NeededOf : List ℕ → ℕ → ℕ → List ℕ → ℕ → Type 0
+NeededOf ledger n k label r = none_bars ledger label k (row_count n - row_count r) r ≡ heard_at ledger n label k
+
+-- Of whatever label and row the first rows are, and the others of the label of grant k and of its q, r is the row of those that bar the grant, p being asked in row `at`.
+abbrev pub BarredAt : List ℕ → ℕ → ℕ → Rows → Rows → Rows → Row → Type 0
+BarredAt ledger k at under own q r =
+    (L : Marks) (g more : ℕ) → at ≡ g + more → RowsAt L g under → RowsAt (held (grant_in ledger k).label) g own → RowsAt (held (grant_in ledger k).q) g q
+    → RowAt (bars_counting L (joined_by (256 * more) (marks_of (grant_in ledger k)))) g r
 
 -- no coalition of row g is one of f exactly if r is true, as the row tells
 pub record ClearAt (f : ℕ → Bool) (g : ℕ) (r : Bool) : Type 0 where
@@ -92,7 +116,7 @@ pub record JudgedAt (ledger : List ℕ) (n k : ℕ) (label : List ℕ) (judged :
   pub own : (g : ℕ) → g < row_count n → RowsAt (held (grant_in ledger k).label) g (rows_of judged.own g)
   pub q : (g : ℕ) → g < row_count n → RowsAt (held (grant_in ledger k).q) g (rows_of judged.q g)
 
--- Where r is true no coalition of n names in the rows from one to another bars grant k, and where it is false one does, so that the grant is not heard.
-pub record ClearedTo (ledger : List ℕ) (n k : ℕ) (label : List ℕ) (from to : ℕ) (r : Bool) : Type 0 where
-  pub clear : r ≡ true → ClearTo (job_of n) (bars_at ledger label k) from → ClearTo (job_of n) (bars_at ledger label k) to
+-- What the first row tells: where r is false the grant is not heard, and up to eight names have no other row.
+pub record FirstCleared (ledger : List ℕ) (n k : ℕ) (label : List ℕ) (r : Bool) : Type 0 where
   pub barred : r ≡ false → heard_at ledger n label k ≡ false
+  pub alone : n ≤ 8 → r ≡ heard_at ledger n label k

@@ -1,13 +1,12 @@
-// Which grants count under a label, on a day (document 01, "Grants that count"; document 02, K2).
+// Which grants count under a label, on a day (document 01, "Grants that count"; document 02, K2 and K6).
 #![tactic(auto)]
 
-ghost use Rattle.std.specs.Prelude.{◌≡◌, ℕ, ◌%◌};
+ghost use Rattle.std.specs.Prelude.{◌≡◌, ℕ, ◌+◌, ◌-◌, ◌^◌, ◌<◌};
 ghost use Rattle.model.specs.Coalitions.{member, Marks, mark};
 ghost use Rattle.model.specs.Grants.{GrantMarks};
 ghost use Rattle.words.specs.FourWords.{RowAt, RowsAt};
-ghost use Rattle.words.specs.Evaluation.{job_of, row_count, ClearTo};
-ghost use Rattle.tables.specs.Filling.{rows_of};
-ghost use Rattle.counting.specs.Counted.{bars_counting, bars_at, ClearAt, JudgedAt, heard_at, on_day, counts_at, counted_in, nothing_known, judged_at, NamesAt, NeededOf, ClearedTo};
+ghost use Rattle.words.specs.Evaluation.{row_count};
+ghost use Rattle.counting.specs.Counted.{hides, breaks_some, bars_at, bars_with, none_bars, BarredAt, ClearAt, JudgedAt, heard_at, on_day, counts_at, counted_in, nothing_known, judged_at, NamesAt, NeededOf, FirstCleared};
 
 use ledgers::Sizes;
 use tables::Table;
@@ -24,18 +23,27 @@ fn names_at(codes: &[u8], at: usize, least: u64) -> u64
         .fold(least, |most, code| most.max(*code as u64 + 1))
 }
 
-// Those of a row that bar a grant from counting under a label, from the rows of the label, of the grant's label and of its q: they see the label and not the
-// grant's, or change the grant's and not the label, or change it and don't hold the voice of q.
-fn barred(under: Rows, own: Rows, q: Rows) -> Row
-    ensures { (L : Marks) (d : GrantMarks) (g : ℕ) → RowsAt L g under → RowsAt d.label g own → RowsAt d.q g q → RowAt (bars_counting L d) g result }
+// Those of a row that show that a grant is not visible, from the rows of the label and of the grant's label: they see the label and not the grant's, or change
+// the grant's and not the label.
+fn hidden(under: Rows, own: Rows) -> Row
+    ensures { (L d : Marks) (g : ℕ) → RowsAt L g under → RowsAt d g own → RowAt (hides L d) g result }
 {
     let unseen = words::without(under.see, own.see);
-    let voice = words::both(q.see, q.change);
-    let allowed = words::both(under.change, voice);
-    words::either(unseen, words::without(own.change, allowed))
+    words::either(unseen, words::without(own.change, under.change))
+}
+
+// Those of a row that hold p and not q on a side.
+fn lacking(p: Rows, q: Rows) -> Row
+    ensures { (g : GrantMarks) (r : ℕ) → RowsAt g.p r p → RowsAt g.q r q → RowAt (breaks_some g) r result }
+{
+    words::either(
+        words::without(p.see, q.see),
+        words::without(p.change, q.change),
+    )
 }
 
 // All rows of a label, of a grant's label and of its q.
+// Kept: p has no table, since most grants that count do so by the voice of q, and need no row of it.
 #[derive(Drop)]
 struct Judged {
     under: Table,
@@ -44,7 +52,7 @@ struct Judged {
 }
 
 impl Judged {
-    // Holds those of n names that tell whether grant k is heard.
+    // Holds those that n names have.
     fn hold(&mut self, asked: &Asked<'_>, n: u64, k: usize)
         ensures { JudgedAt asked.now.ledger.now n k asked.now.label.now self.new }
     {
@@ -55,11 +63,12 @@ impl Judged {
             .hold(asked.ledger, ledgers::term_place(k, ledgers::Q), n);
     }
 
-    // No coalition of n names in row g bars the grant from counting under the label.
-    fn is_clear(&self, n: u64, g: u64) -> bool
-        ensures { (L : Marks) (d : GrantMarks) → RowsAt L g (rows_of self.now.under (g % 16)) → RowsAt d.label g (rows_of self.now.own (g % 16)) → RowsAt d.q g (rows_of self.now.q (g % 16)) → ClearAt (mark n (bars_counting L d)) g result }
+    // No coalition of n names in row g bars grant k from counting under the label, where p is asked so many rows further on.
+    fn is_clear(&self, asked: &Asked<'_>, n: u64, k: usize, g: u64, more: u64) -> bool
+        ensures { JudgedAt asked.now.ledger.now n k asked.now.label.now self.now → g < row_count n → g + more < 2 ^ 64 → ClearAt (mark n (bars_with asked.now.ledger.now asked.now.label.now k more)) g result }
     {
-        let bars = barred(self.under.rows(g), self.own.rows(g), self.q.rows(g));
+        let at = g.wrapping_add(more);
+        let bars = asked.barred(k, at, self.under.rows(g), self.own.rows(g), self.q.rows(g));
         let all = words::low_row(n, g);
         words::empty(words::both(all, bars))
     }
@@ -75,6 +84,20 @@ pub struct Asked<'a> {
 }
 
 impl Asked<'_> {
+    // Those of a row that bar grant k from counting under the label, from the rows of the label, of the grant's label and of its q; p is asked in row `at`. There is
+    // no need of it where all that change the grant's label hold the voice of q: they break no grant of q.
+    fn barred(&self, k: usize, at: u64, under: Rows, own: Rows, q: Rows) -> Row
+        ensures { BarredAt self.now.ledger.now k at under own q result }
+    {
+        let unseen = hidden(under, own);
+        let voice = words::both(q.see, q.change);
+        if words::empty(words::without(own.change, voice)) {
+            return unseen;
+        }
+        let p = words::hold(self.ledger, ledgers::term_place(k, ledgers::P), at).rows;
+        words::either(unseen, words::both(own.change, lacking(p, q)))
+    }
+
     // Those of row g that bar grant k from counting under the label. Where none changes the grant's label there is no need of q.
     fn barring(&self, k: usize, g: u64) -> Row
         ensures { RowAt (bars_at self.now.ledger.now self.now.label.now k) g result }
@@ -85,7 +108,7 @@ impl Asked<'_> {
             return words::without(under.see, own.see);
         }
         let q = words::hold(self.ledger, ledgers::term_place(k, ledgers::Q), g).rows;
-        barred(under, own, q)
+        self.barred(k, g, under, own, q)
     }
 
     // And those that are coalitions of n names. The mask is needed only where there are any.
@@ -100,7 +123,7 @@ impl Asked<'_> {
     }
 
     // How many of the names there is need to ask when grant k is judged: those up to the highest of the label, of the grant's label and of its q, and at least
-    // eight, which have one row. The coalitions with further names only repeat what those without them say.
+    // eight, which have one row. Of the further names p alone may have some; it is held most where all of them are members, and so asked there.
     fn names_needed(&self, k: usize) -> u64
         ensures { NeededOf self.now.ledger.now self.now.sizes.names k self.now.label.now result }
     {
@@ -112,36 +135,37 @@ impl Asked<'_> {
 
     // No coalition of the names there are in the first row bars grant k.
     fn first_clear(&self, k: usize) -> bool
-        ensures { ClearedTo self.now.ledger.now self.now.sizes.names k self.now.label.now 0 1 result }
+        ensures { FirstCleared self.now.ledger.now self.now.sizes.names k self.now.label.now result }
     {
         words::empty(self.barring_of(self.sizes.names, k, 0))
     }
 
-    // No coalition of n names in the rows from one on bars grant k.
-    fn rows_clear(&self, n: u64, k: usize, from: u64) -> bool
-        ensures { ClearedTo self.now.ledger.now n k self.now.label.now from (row_count n) result }
+    // No coalition of n of the names bars grant k, where p is asked with all the others among the members: in the last rows.
+    fn rows_clear(&self, n: u64, k: usize) -> bool
+        ensures { result ≡ none_bars self.now.ledger.now self.now.label.now k (row_count self.now.sizes.names - row_count n) n }
     {
+        let more = words::row_count(self.sizes.names).saturating_sub(words::row_count(n));
         let mut judged = Judged {
             under: Table::new(),
             own: Table::new(),
             q: Table::new(),
         };
         judged.hold(self, n, k);
-        (from..words::row_count(n)).all(|g| judged.is_clear(n, g))
+        (0..words::row_count(n)).all(|g| judged.is_clear(self, n, k, g, more))
     }
 
-    // The same in the rows after the first, of as many names as there is need to ask: where the first is clear, it tells whether grant k is heard.
-    fn others_clear(&self, k: usize) -> bool
-        ensures { ClearTo (job_of self.now.sizes.names) (bars_at self.now.ledger.now self.now.label.now k) 1 → result ≡ heard_at self.now.ledger.now self.now.sizes.names self.now.label.now k }
+    // The same of as many names as there is need to ask.
+    fn all_clear(&self, k: usize) -> bool
+        ensures { result ≡ heard_at self.now.ledger.now self.now.sizes.names self.now.label.now k }
     {
-        self.rows_clear(self.names_needed(k), k, 1)
+        self.rows_clear(self.names_needed(k), k)
     }
 
     // Grant k is visible under the label, and spoken. The first row tells most grants that are not.
     fn heard(&self, k: usize) -> bool
         ensures { result ≡ heard_at self.now.ledger.now self.now.sizes.names self.now.label.now k }
     {
-        self.first_clear(k) && (self.sizes.names <= 8 || self.others_clear(k))
+        self.first_clear(k) && (self.sizes.names <= 8 || self.all_clear(k))
     }
 
     // The day is within the days of grant k.

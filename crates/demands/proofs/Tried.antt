@@ -10,7 +10,7 @@ use Rattle.model.specs.Bytes.{zeros, pieces, joined}
 use Rattle.model.specs.Coalitions.{member, every, within, lowest, mark, packed}
 use Rattle.model.specs.Terms.{name, bottom, disj, project, codes, code_of, read_within, read_term, held}
 use Rattle.model.specs.Dates.{date_or_none, in_order, in_days}
-use Rattle.model.specs.Grants.{counts_under, visible, voice, spoken, heard, chosen, sound}
+use Rattle.model.specs.Grants.{counts_under, gap, visible, spoken, heard, chosen, sound}
 use Rattle.model.specs.Ledgers.{read_book, weighted, check_of, checked, grant_blocks, all_checked, header_form, grant_form, read_terms, read_days, read_grant, read_grants, read_ledger, with_check, ledger_of}
 use Rattle.model.specs.Questions.{refutes, judge, across, sound_under, acts_for_under, flows_to_under, ask, acts_for, flows_to}
 use Rattle.model.specs.Extracts.{packed_bytes, table, extract_of, extract}
@@ -29,7 +29,7 @@ unfolding code_of read_within read_term held
 weakest_held = record { term = bottom; is = refl; everywhere = λ s c. refl }
 
 pub worked_cases : WorkedCases
-unfolding plain one_grant zeros pieces joined codes code_of read_within read_term member held every within visible voice spoken heard in_days counts_under chosen sound weighted check_of checked grant_blocks all_checked header_form grant_form read_terms date_or_none in_order read_days read_grant read_grants read_ledger read_book lowest refutes judge across sound_under acts_for_under flows_to_under ask acts_for flows_to mark packed packed_bytes table extract_of extract
+unfolding plain one_grant zeros pieces joined codes code_of read_within read_term member held every within gap visible spoken heard in_days counts_under chosen sound weighted check_of checked grant_blocks all_checked header_form grant_form read_terms date_or_none in_order read_days read_grant read_grants read_ledger read_book lowest refutes judge across sound_under acts_for_under flows_to_under ask acts_for flows_to mark packed packed_bytes table extract_of extract
 worked_cases = record {
   a_either = either_held;
   a_weakest = weakest_held;
@@ -47,12 +47,12 @@ worked_cases = record {
 }
 
 pub wrong_turns : WrongTurns
-unfolding plain side_spoken side_labelled zeros pieces joined codes code_of read_within read_term member held every within visible voice spoken heard in_days counts_under chosen sound weighted check_of checked grant_blocks all_checked header_form grant_form read_terms date_or_none in_order read_days read_grant read_grants read_ledger read_book lowest refutes judge across sound_under acts_for_under flows_to_under ask acts_for flows_to with_check ledger_of
+unfolding plain side_spoken side_labelled zeros pieces joined codes code_of read_within read_term member held every within gap visible spoken heard in_days counts_under chosen sound weighted check_of checked grant_blocks all_checked header_form grant_form read_terms date_or_none in_order read_days read_grant read_grants read_ledger read_book lowest refutes judge across sound_under acts_for_under flows_to_under ask acts_for flows_to with_check ledger_of
 wrong_turns = record {
   full_lacks_strongest = λ day r. rw r;
   flows_see_side = λ day r. rw r;
   visible_see_side = λ day r. rw r;
   invisible_see_side = λ day r. rw r;
-  voice_see_side = λ day r. rw r;
+  gap_see_side = λ day r. rw r;
   either_across = λ day r. rw r;
 }

@@ -79,7 +79,7 @@ pub record WrongTurns : Type 0 where
   -- and so it does in what is visible: under a label that may see more the grant counts, under one that may see less it does not
   pub visible_see_side : Daily (λ day. acts_for side_labelled (0x00 ∷ []) (0x01 ∷ []) (0x30 ∷ 0x40 ∷ 0x30 ∷ 0x00 ∷ 0x01 ∷ 0x41 ∷ 0x01 ∷ []) day ≡ Yes)
   pub invisible_see_side : Daily (λ day. acts_for side_labelled (0x00 ∷ []) (0x01 ∷ []) (0x41 ∷ 0x01 ∷ []) day ≡ No confidentiality 1)
-  -- the voice asks the see side of q too
-  pub voice_see_side : Daily (λ day. acts_for side_spoken (0x00 ∷ []) (0x40 ∷ 0x01 ∷ []) (0x21 ∷ []) day ≡ No confidentiality 1)
+  -- the gap is asked on the see side too
+  pub gap_see_side : Daily (λ day. acts_for side_spoken (0x00 ∷ []) (0x40 ∷ 0x01 ∷ []) (0x21 ∷ []) day ≡ No confidentiality 1)
   -- an either across two sides is held where one of them is
   pub either_across : Daily (λ day. acts_for plain (0x21 ∷ []) (0x31 ∷ 0x40 ∷ 0x00 ∷ 0x41 ∷ 0x01 ∷ []) (0x21 ∷ []) day ≡ Yes)

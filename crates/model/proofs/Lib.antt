@@ -7,6 +7,8 @@ pub mod Search
 pub mod Largest
 pub mod Judge
 pub mod Dates
+pub mod Monotone
+pub mod Gap
 pub mod Sound
 pub mod Testing
 pub mod Packed
@@ -21,7 +23,6 @@ pub mod Blocks
 pub mod Stands
 pub mod Steps
 pub mod Prefixes
-pub mod Monotone
 pub mod Listed
 pub mod Telling
 pub mod Texts

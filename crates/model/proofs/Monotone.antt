@@ -11,16 +11,13 @@ use lib.Dec.{eqb}
 use lib.Pow.{pow_mono}
 use borrow.Author.Tests.{eqb-true, eqb-false, ne_eqb, not-true, leb-true, le-leb}
 use Rattle.model.specs.Sides.{Side, confidentiality, integrity}
-use Rattle.model.specs.Coalitions.{member, implies, every, Lowest, nowhere, at, lowest, proper_subset}
+use Rattle.model.specs.Coalitions.{member, implies, every, Lowest, nowhere, at, lowest, subset, proper_subset}
 use Rattle.model.specs.Terms.{Term, name, top, bottom, conj, disj, project, quorum, Terms, nil, cons, held, held_count}
 use Rattle.model.specs.ShortForms.{minimal}
+use Rattle.model.specs.Meanings.{Subset}
 use Rattle.model.proofs.Truth.{clash, true_of, false_of, and_intro, and_left, and_right, or_left, or_right, or_elim, bool_ext, implies_elim, implies_intro}
 use Rattle.model.proofs.Search.{Says, every_elim, every_intro, lowest_says}
 use Rattle.model.proofs.Packed.{member-zero, member-suc, bits_ext}
-
--- of n names, every member of b is one of c
-abbrev pub Subset : ℕ → ℕ → ℕ → Type 0
-Subset n b c = (i : ℕ) → i < n → member i b ≡ true → member i c ≡ true
 
 -- ---- one member less
 
@@ -101,21 +98,25 @@ mutual
   count_monotone n nil s b c l h = omega arith
   count_monotone n (cons t ts) s b c l h = counts_more (held t s b) (held t s c) (λ e. held_monotone n t s b c l h e) (count_monotone n ts s b c l h)
 
--- ---- proper subsets
+-- ---- subsets
 
 module _ (n b c : ℕ) where
   kept : ℕ → Bool
   kept i = implies (member i b) (member i c)
 
-  -- what `proper_subset` says
+  -- what `subset` and `proper_subset` say
+  pub subset_says : subset n b c ≡ true ↔ Subset n b c
+  unfolding kept
+  subset_says = (
+    λ e i l. implies_elim (member i b) (member i c) (every_elim kept n e i l),
+    λ w. every_intro kept n (λ i l. implies_intro (member i b) (member i c) (w i l)),
+  )
+
   pub proper_says : proper_subset n b c ≡ true ↔ (Subset n b c × (b ≡ c → ⊥))
-  unfolding proper_subset kept
+  unfolding proper_subset
   proper_says = (
-    λ e. (
-      λ i l. implies_elim (member i b) (member i c) (every_elim kept n (and_left (every kept n) (not (eqb b c)) e) i l),
-      eqb-false b c (not-true (eqb b c) (and_right (every kept n) (not (eqb b c)) e)),
-    ),
-    λ w. and_intro (every_intro kept n (λ i l. implies_intro (member i b) (member i c) (w.0 i l))) (ap not (ne_eqb b c w.1)),
+    λ e. (subset_says.0 (and_left (subset n b c) (not (eqb b c)) e), eqb-false b c (not-true (eqb b c) (and_right (subset n b c) (not (eqb b c)) e))),
+    λ w. and_intro (subset_says.1 w.0) (ap not (ne_eqb b c w.1)),
   )
 
 -- the subset lacks some member of c, so that it is within c less that member

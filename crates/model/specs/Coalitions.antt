@@ -23,9 +23,13 @@ every f (suc k) = every f k && f k
 unfoldable pub within : ℕ → (ℕ → Bool) → (ℕ → Bool) → Bool
 within n f g = every (λ c. implies (f c) (g c)) (2 ^ n)
 
--- of n names: every member of b is one of c, and b is not c
+-- of n names: every member of b is one of c
+abbrev pub subset : ℕ → ℕ → ℕ → Bool
+subset n b c = every (λ i. implies (member i b) (member i c)) n
+
+-- and b is not c
 unfoldable pub proper_subset : ℕ → ℕ → ℕ → Bool
-proper_subset n b c = every (λ i. implies (member i b) (member i c)) n && not (eqb b c)
+proper_subset n b c = subset n b c && not (eqb b c)
 
 -- the lowest number below k at which f holds
 pub data Lowest : Type 0 where

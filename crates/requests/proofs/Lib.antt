@@ -5,4 +5,5 @@ pub mod Dating
 pub mod Stopping
 pub mod Places
 pub mod Keeping
+pub mod Speaking
 pub mod Tried

@@ -5,7 +5,7 @@ use Rattle.model.specs.Bytes.{zeros, same, pieces, joined}
 use Rattle.model.specs.Coalitions.{member, every, within, proper_subset, lowest, those}
 use Rattle.model.specs.Terms.{count, codes, code_of, read_all, read_within, read_term, held}
 use Rattle.model.specs.Dates.{leap, days_in, real_date, next_day, days_later, add_days, date_or_none, in_order, in_days}
-use Rattle.model.specs.Grants.{counts_under, visible, voice, spoken, heard, of_grant, chosen, sound}
+use Rattle.model.specs.Grants.{counts_under, gap, visible, spoken, heard, of_grant, chosen, sound}
 use Rattle.model.specs.Ledgers.{read_book, weighted, check_of, checked, grant_blocks, all_checked, header_form, grant_form, read_terms, read_days, read_grant, read_block, read_grants, read_ledger, with_check, ledger_of}
 use Rattle.model.specs.Questions.{refutes, judge, across, sound_under, acts_for_under, ask, acts_for}
 use Rattle.model.specs.Testing.{test, test_under}
@@ -15,7 +15,8 @@ use Rattle.model.specs.ShortForms.{minimal, pairs, listed, short_form, short_for
 use Rattle.model.specs.Derivations.{rule_of, step_form, read_left, read_right, meets, check_step, check_steps, check_derivation}
 use Rattle.model.specs.Texts.{places, flat, term, rank, fewest}
 use Rattle.model.specs.Notation.{last_of, read_deep, text_codes, term_text}
-use Rattle.requests.specs.Cases.{NotationCases, block_of, dated, DayCases, grant_block_of, four_grants, two_grants, TestCases, long_term, QuorumCases}
+use Rattle.requests.specs.Cases.{NotationCases, block_of, dated, DayCases, grant_block_of, four_grants, two_grants, TestCases, long_term, QuorumCases, GapCases}
+use Rattle.model.specs.Voice.{voice, spoken_by_voice}
 use Rattle.requests.specs.LiveCases.{block_a, block_b, block_c, LiveCases}
 
 pub notation_cases : NotationCases
@@ -50,7 +51,7 @@ notation_cases = record {
 }
 
 pub day_cases : DayCases
-unfolding dated block_of zeros same pieces joined codes code_of read_within read_term member held every within visible voice spoken heard in_days counts_under of_grant chosen sound weighted check_of checked grant_blocks all_checked header_form grant_form read_terms leap days_in real_date next_day days_later add_days date_or_none in_order read_days read_grant read_grants read_ledger read_book lowest refutes judge sound_under acts_for_under ask acts_for extract_of extract with_check ledger_of rule_of step_form read_left read_right meets check_step check_steps check_derivation
+unfolding dated block_of zeros same pieces joined codes code_of read_within read_term member held every within gap visible spoken heard in_days counts_under of_grant chosen sound weighted check_of checked grant_blocks all_checked header_form grant_form read_terms leap days_in real_date next_day days_later add_days date_or_none in_order read_days read_grant read_grants read_ledger read_book lowest refutes judge sound_under acts_for_under ask acts_for extract_of extract with_check ledger_of rule_of step_form read_left read_right meets check_step check_steps check_derivation
 day_cases = record {
   on_the_last_day = refl;
   after_last = refl;
@@ -81,7 +82,7 @@ day_cases = record {
 }
 
 pub test_cases : TestCases
-unfolding four_grants two_grants grant_block_of zeros pieces joined code_of read_within read_term member held every within visible voice spoken heard in_days counts_under chosen weighted check_of checked grant_blocks all_checked header_form grant_form read_terms date_or_none in_order read_days read_grant read_grants read_ledger read_book with_check ledger_of test test_under
+unfolding four_grants two_grants grant_block_of zeros pieces joined code_of read_within read_term member held every within gap visible spoken heard in_days counts_under chosen weighted check_of checked grant_blocks all_checked header_form grant_form read_terms date_or_none in_order read_days read_grant read_grants read_ledger read_book with_check ledger_of test test_under
 test_cases = record {
   four_0 = elim [ confidentiality ↦ refl | integrity ↦ refl ];
   four_1 = elim [ confidentiality ↦ refl | integrity ↦ refl ];
@@ -143,13 +144,15 @@ quorum_cases = record {
 }
 
 pub live_cases : LiveCases
-unfolding block_a block_b block_c block_of grant_block_of zeros code_of read_within read_term member held every within visible voice spoken heard leap days_in real_date in_days counts_under weighted check_of checked grant_form read_terms date_or_none in_order read_days read_grant read_block with_check lowest refutes across judge make breaks_counting added grant_at withdrawn acts_for_live flows_to_live ask_live step run
+unfolding block_a block_b block_c block_of grant_block_of zeros code_of read_within read_term member held every within gap visible spoken heard leap days_in real_date in_days counts_under weighted check_of checked grant_form read_terms date_or_none in_order read_days read_grant read_block with_check lowest refutes across judge make breaks_counting added grant_at withdrawn acts_for_live flows_to_live ask_live step run
 live_cases = record {
   new_number = elim [ confidentiality ↦ refl | integrity ↦ refl ];
   new_acts_for = refl;
   one_number = elim [ confidentiality ↦ refl | integrity ↦ refl ];
   one_acts_for = refl;
   one_flows_to = refl;
+  part_number = elim [ confidentiality ↦ refl | integrity ↦ refl ];
+  part_acts_for = refl;
   two_number = elim [ confidentiality ↦ refl | integrity ↦ refl ];
   twin_number = elim [ confidentiality ↦ refl | integrity ↦ refl ];
   twin_acts_for = refl;
@@ -161,4 +164,14 @@ live_cases = record {
   bad_label = refl;
   moved_down = refl;
   none_at_2 = refl;
+}
+
+pub gap_cases : GapCases
+unfolding grant_block_of zeros pieces joined code_of read_within read_term member held every within gap visible spoken heard in_days counts_under chosen sound voice spoken_by_voice weighted check_of checked grant_blocks all_checked header_form grant_form read_terms date_or_none in_order read_days read_grant read_grants read_ledger read_book with_check ledger_of lowest refutes judge sound_under acts_for_under ask acts_for
+gap_cases = record {
+  part_spoken = λ day r. rw r;
+  not_by_voice = refl;
+  see_unspoken = λ day r. rw r;
+  see_spoken = λ day r. rw r;
+  nothing_lacked = refl;
 }

@@ -3,8 +3,9 @@ use Rattle.std.specs.Prelude.{◌≡◌, ℕ, ◌-◌, ◌/◌, ◌%◌, Bool, t
 use Rattle.model.specs.Sides.{Side, confidentiality, integrity}
 use Rattle.model.specs.Readings.{Reading, accepted, refused, and_then}
 use Rattle.model.specs.Bytes.{field, big_endian}
-use Rattle.model.specs.Terms.{read_term, held}
+use Rattle.model.specs.Terms.{name, bottom, conj, project, read_term, held}
 use Rattle.model.specs.Dates.{real_date, add_days}
+use Rattle.model.specs.Grants.{spoken}
 use Rattle.model.specs.Ledgers.{read_ledger, read_book, with_check, ledger_of}
 use Rattle.model.specs.Answers.{Answer, Yes, No, Refused, RefusedAt}
 use Rattle.model.specs.Questions.{acts_for}
@@ -13,7 +14,8 @@ use Rattle.model.specs.Extracts.{extract}
 use Rattle.model.specs.ShortForms.{short_form_of}
 use Rattle.model.specs.Derivations.{check_derivation}
 use Rattle.model.specs.Notation.{text_codes, term_text}
-use Rattle.demands.specs.Cases.{code1, code2}
+use Rattle.model.specs.Voice.{spoken_by_voice}
+use Rattle.demands.specs.Cases.{code1, code2, Daily}
 use Rattle.requests.specs.Testing.{broken_after, sound_after}
 
 -- K1: a written notation
@@ -249,3 +251,20 @@ pub record QuorumCases : Type 0 where
   pub codes_65_read : text_codes 3 ((0x31 ∷ 0x3A ∷ 0x31 ∷ 0x28 ∷ 0x61 ∷ 0x29 ∷ []) ++ replicate 61 0x3E) 64 ≡ refused 83
   -- 64 codes in 132 characters
   pub longest : and_then (term_text 3 long_term 256) (λ text. accepted (length text)) ≡ accepted 132
+
+-- ---- K6: only the missing part must be spoken
+
+-- two names and this grant
+abbrev pub granting_part : List ℕ → List ℕ → List ℕ → List ℕ
+granting_part p q label = ledger_of 2 (grant_block_of p q label ∷ [])
+
+-- On every real day. Case G, 00 for 01 labelled 41 00, is one of document 01's.
+pub record GapCases : Type 0 where
+  -- 00 for 30 00 01, labelled 41 01: 01 is what 00 lacks, and its word is not the voice of 30 00 01
+  pub part_spoken : Daily (λ day. acts_for (granting_part (0x00 ∷ []) (0x30 ∷ 0x00 ∷ 0x01 ∷ []) (0x41 ∷ 0x01 ∷ [])) (0x00 ∷ []) (0x01 ∷ []) (0x41 ∷ 0x01 ∷ []) day ≡ Yes)
+  pub not_by_voice : spoken_by_voice 2 (held (conj (name 0) (name 1))) (held (project integrity (name 1))) ≡ false
+  -- 00 for 40 01, labelled 41 00 and 41 01: the see side of 01 is what 00 lacks
+  pub see_unspoken : Daily (λ day. acts_for (granting_part (0x00 ∷ []) (0x40 ∷ 0x01 ∷ []) (0x41 ∷ 0x00 ∷ [])) (0x00 ∷ []) (0x40 ∷ 0x01 ∷ []) (0x21 ∷ []) day ≡ No confidentiality 1)
+  pub see_spoken : Daily (λ day. acts_for (granting_part (0x00 ∷ []) (0x40 ∷ 0x01 ∷ []) (0x41 ∷ 0x01 ∷ [])) (0x00 ∷ []) (0x40 ∷ 0x01 ∷ []) (0x41 ∷ 0x01 ∷ []) day ≡ Yes)
+  -- 30 00 01 for 00, labelled 41 21: nothing is lacked
+  pub nothing_lacked : spoken 2 (held (conj (name 0) (name 1))) (held (name 0)) (held (project integrity bottom)) ≡ true

@@ -23,6 +23,10 @@ blocks_after calls = live_after calls (λ x. x.blocks)
 abbrev pub add_g : Call
 add_g = add (dated_block 0 0)
 
+-- 00 for 30 00 01, labelled 41 01: spoken by the gap (K6)
+abbrev pub add_part : Call
+add_part = add (grant_block_of (0x00 ∷ []) (0x30 ∷ 0x00 ∷ 0x01 ∷ []) (0x41 ∷ 0x01 ∷ []))
+
 -- does 00 act for 01, and flow to it
 abbrev pub acts_q : Call
 acts_q = ask_acts_for (0x00 ∷ []) (0x01 ∷ [])
@@ -48,6 +52,9 @@ pub record LiveCases : Type 0 where
   pub one_number : (s : Side) → number_after (add_g ∷ []) s 1 ≡ accepted 1
   pub one_acts_for : reply_after (add_g ∷ []) acts_q ≡ accepted Yes
   pub one_flows_to : reply_after (add_g ∷ []) flows_q ≡ accepted (No confidentiality 2)
+  -- or a grant of which it speaks only what 00 lacks
+  pub part_number : (s : Side) → number_after (add_part ∷ []) s 1 ≡ accepted 1
+  pub part_acts_for : reply_after (add_part ∷ []) acts_q ≡ accepted Yes
   -- its twin; then either is withdrawn; then the other
   pub two_number : (s : Side) → number_after (add_g ∷ add_g ∷ []) s 1 ≡ accepted 2
   pub twin_number : (s : Side) → number_after (add_g ∷ add_g ∷ withdraw 0 ∷ []) s 1 ≡ accepted 1

@@ -2,9 +2,9 @@
 use Rattle.std.specs.Prelude.{◌≡◌, ◌⊎◌, ◌↔◌, ℕ, zero, suc, ◌^◌, ◌≤◌, ◌<◌, Bool, true, false, List, [], ◌∷◌, ◌++◌, length}
 use Rattle.model.specs.Sides.{Side}
 use Rattle.model.specs.Readings.{accepted, refused}
-use Rattle.model.specs.Coalitions.{member}
 use Rattle.model.specs.Terms.{Term, conj, disj, quorum, Terms, nil, cons, count, codes_all, PartsBelow, stopped, read_front, read_term, held}
 use Rattle.model.specs.Grants.{acts_statically}
+use Rattle.model.specs.Meanings.{Subset}
 
 -- The part at place i is held on the side at coalition c; the first place is 0, and past the last one nothing is held.
 unfoldable pub held_at : Terms → ℕ → Side → ℕ → Bool
@@ -50,7 +50,7 @@ MoreForFewer = (n j k : ℕ) (ts : Terms) → k ≤ j → acts_statically n (quo
 
 -- What a coalition b of n names holds, a coalition c with all its members holds.
 abbrev pub MoreMembersHold : Type 0
-MoreMembersHold = (n k : ℕ) (ts : Terms) (s : Side) (b c : ℕ) → b < 2 ^ n → ((i : ℕ) → i < n → member i b ≡ true → member i c ≡ true)
+MoreMembersHold = (n k : ℕ) (ts : Terms) (s : Side) (b c : ℕ) → b < 2 ^ n → Subset n b c
     → held (quorum k ts) s b ≡ true → held (quorum k ts) s c ≡ true
 
 -- not 1 ≤ k ≤ m ≤ 12

@@ -2,6 +2,7 @@
 #![tactic(auto)]
 
 pub mod days;
+pub mod gap;
 pub mod live;
 pub mod notation;
 pub mod quorums;

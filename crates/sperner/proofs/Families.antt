@@ -11,7 +11,8 @@ use lib.ListN.{length, get_or}
 use borrow.Author.Tests.{eqb-true, eq-eqb, ne_eqb}
 use Rattle.model.specs.Coalitions.{bit, proper_subset, those}
 use Rattle.model.specs.Layers.{layer}
-use Rattle.model.proofs.Monotone.{Subset, proper_says}
+use Rattle.model.specs.Meanings.{Subset}
+use Rattle.model.proofs.Monotone.{proper_says}
 use Rattle.model.proofs.Truth.{clash, false_of, or_elim, lt_or_ge, below_suc}
 use Rattle.sperner.specs.Antichains.{Antichain, SpernersBound, BoundReached}
 use Rattle.sperner.proofs.Counts.{count, count-suc, count_cong, nth, nth_there, nth_ascends}

@@ -11,7 +11,7 @@ use lib.ListN.{length}
 use borrow.Author.Tests.{eq-eqb}
 use Rattle.model.specs.Coalitions.{bit, those}
 use Rattle.model.specs.Layers.{size}
-use Rattle.model.proofs.Monotone.{Subset}
+use Rattle.model.specs.Meanings.{Subset}
 use Rattle.model.proofs.Packed.{bit_lt}
 use Rattle.model.proofs.Truth.{decide, false_of}
 use Rattle.sperner.proofs.Sizes.{of_size, Apart, size-without, without_below, with_below, size_with, subset_with, subset_without, subset_both}

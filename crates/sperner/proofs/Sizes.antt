@@ -13,7 +13,8 @@ use borrow.Author.Tests.{eqb-true}
 use Rattle.model.specs.Coalitions.{member, bit, those}
 use Rattle.model.specs.Layers.{size}
 use Rattle.model.proofs.Packed.{member-zero, member-suc, bits_ext}
-use Rattle.model.proofs.Monotone.{Subset, less_keeps, member_past}
+use Rattle.model.specs.Meanings.{Subset}
+use Rattle.model.proofs.Monotone.{less_keeps, member_past}
 use Rattle.model.proofs.Truth.{below_suc, clash}
 use Rattle.sperner.proofs.Counts.{count, count_add, count-suc, count_cong}
 

@@ -14,5 +14,5 @@ returns c =
       | yes h ↦ (let e : c.min.result ≡ r = omega arith in rw e (needed_few _ _ _ _ _ _ _ h c.names_at-asked.ensures
           (subst (λ (at : ℕ). NamesAt a.self.now.ledger.now at c.names_at-asked.result c.names_at-own.result) c.term_place.ensures c.names_at-own.ensures)
           (subst (λ (at : ℕ). NamesAt a.self.now.ledger.now at c.names_at-own.result c.names_at-all.result) c.term_place-2.ensures c.names_at-all.ensures)))
-      | no h ↦ (let e : c.min.result ≡ a.self.now.sizes.names = omega arith in rw e (needed_all _ _ _ _))
+      | no h ↦ (let e : c.min.result ≡ a.self.now.sizes.names = omega arith in rw e (needed_all a.self.now.ledger.now _ a.k a.self.now.label.now))
     ]

@@ -76,6 +76,12 @@ static void make_calls(make_call *make, struct job job)
     }
 }
 
+/* How many judge this grant as it is meant: an archive of before version 5 asks for the voice of q. */
+static unsigned engines_judging(const struct call *call, unsigned grant)
+{
+    return BEFORE_VERSION < 5 && meant_by_gap(&call->ledger, grant) ? EARLIER : engines_for(call);
+}
+
 /* A derivation of one step, by rule 2 on this grant: accepted if the grant is meant to count, else refused. */
 static void expect_counting(struct call *call, unsigned grant, bool counts)
 {
@@ -84,7 +90,7 @@ static void expect_counting(struct call *call, unsigned grant, bool counts)
     call->derivation.length = 0;
     add_step(&call->derivation, 2, 0, 0, grant, &p, &q);
     struct request request = request_of(call, buffer);
-    unsigned engine_count = engines_for(call);
+    unsigned engine_count = engines_judging(call, grant);
     for (unsigned e = 0; e < engine_count; e++)
         answers[e] = perform(engines[e], &request);
     expect("which grants count", answers, engine_count, answers[0] == wanted);
@@ -209,6 +215,15 @@ static const struct row {
     {"acts-for, yes, early", make_early_yes, YES},
     {"test, early", make_early_test, NO},
     {"test, sound", make_sound_test, YES},
+    {"counting, chain", make_counting_chain, YES},
+    {"counting, by the voice", make_counting_by_voice, YES},
+    {"counting, by the gap", make_counting_by_gap, YES},
+};
+
+/* Of twelve names and few codes. */
+static const struct row short_rows[] = {
+    {"counting, voice, 5 codes", make_counting_by_voice, YES},
+    {"counting, gap, 5 codes", make_counting_by_gap, YES},
 };
 
 /* Of twelve names; the first four without grants. */
@@ -266,8 +281,19 @@ static void print_job(struct job job)
     print_ledger("chain", make_chain_extract, job);
     print_ledger("breaking", make_breaking_extract, job);
     print_ledger("early", make_early_extract, job);
+    print_ledger("by the gap", make_gap_extract, job);
     print_head("", ENGINES);
     print_rows(rows, sizeof rows / sizeof *rows, job);
+}
+
+static const struct job short_job = {NAMES, GRANTS, 5};
+
+static void print_short(void)
+{
+    printf("%u names, %u grants, %u codes\n", short_job.n, short_job.grants, short_job.codes);
+    print_ledger("by the gap", make_gap_extract, short_job);
+    print_head("", ENGINES);
+    print_rows(short_rows, sizeof short_rows / sizeof *short_rows, short_job);
 }
 
 static const struct job quorum_job = {NAMES, GRANTS, 0};
@@ -346,6 +372,7 @@ int main(int argc, char **argv)
         for (unsigned i = 0; i < SIZES; i++)
             run_rows_once(rows, sizeof rows / sizeof *rows, sizes[i]);
         run_rows_once(quorum_rows, sizeof quorum_rows / sizeof *quorum_rows, quorum_job);
+        run_rows_once(short_rows, sizeof short_rows / sizeof *short_rows, short_job);
         run_live_rows_once(once);
         return 0;
     }
@@ -353,6 +380,7 @@ int main(int argc, char **argv)
         printf("before: the archive of revision %s\n", engines[e]->name);
     for (unsigned i = 0; i < SIZES; i++)
         print_job(sizes[i]);
+    print_short();
     print_quorums();
     print_growth_with_grants();
     print_growth_with_names();

@@ -271,8 +271,10 @@ static bool in_its_days(const uint8_t *block, uint64_t day)
     return first <= day && (last == 0 || day <= last);
 }
 
-/* Visible under the label and spoken, q being marked already. */
-static bool counts(unsigned n, const uint8_t *text, size_t text_len, const uint8_t *block, const struct marks *q)
+/* Visible under the label and spoken, p and q being marked already. Terms are monotone: so it is spoken where nobody
+ * that holds its label on the change side holds p and not q, on either side. */
+static bool counts(unsigned n, const uint8_t *text, size_t text_len, const uint8_t *block, const struct marks *p,
+                   const struct marks *q)
 {
     struct marks label, d;
     unsigned count = words_of(n);
@@ -281,8 +283,8 @@ static bool counts(unsigned n, const uint8_t *text, size_t text_len, const uint8
     mark(&d, term_of(block, 2), block[3], count);
     for (unsigned i = 0; i < count; i++) {
         uint64_t said = d.on[CHANGE][i];
-        against |= (label.on[SEE][i] & ~d.on[SEE][i])
-                 | (said & ~(label.on[CHANGE][i] & q->on[SEE][i] & q->on[CHANGE][i]));
+        uint64_t breaks = (p->on[SEE][i] & ~q->on[SEE][i]) | (p->on[CHANGE][i] & ~q->on[CHANGE][i]);
+        against |= (label.on[SEE][i] & ~d.on[SEE][i]) | (said & (~label.on[CHANGE][i] | breaks));
     }
     return (against & bits_of(n)) == 0;
 }
@@ -330,10 +332,10 @@ static void change_numbers(row_change *change, const uint64_t *head, const uint8
     struct marks p, q;
     if (!in_its_days(block, head[DAY_OF]))
         return;
-    mark(&q, term_of(block, 1), block[2], words_of(n));
-    if (!counts(n, text, (size_t)head[CODES_OF], block, &q))
-        return;
     mark(&p, term_of(block, 0), block[1], words_of(n));
+    mark(&q, term_of(block, 1), block[2], words_of(n));
+    if (!counts(n, text, (size_t)head[CODES_OF], block, &p, &q))
+        return;
     change_side(change, numbers, p.on[SEE], q.on[SEE], n);
     change_side(change, numbers + SIDE_ROWS * ROW, p.on[CHANGE], q.on[CHANGE], n);
 }

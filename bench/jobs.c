@@ -111,11 +111,25 @@ static void add_counting(struct ledger *ledger, const struct term *p, const stru
     add_grant(ledger, p, q, &label);
 }
 
-bool meant_to_count(const struct ledger *ledger, unsigned grant)
+/* How many of the last codes of q follow the 41 of the label; 0 if something else does, or it has no 41. */
+static size_t codes_spoken(const struct ledger *ledger, unsigned grant)
 {
     struct term q = term_of_grant(ledger, grant, 1), label = term_of_grant(ledger, grant, 2);
-    struct term word = prefixed(CHANGE_OF, &q);
-    return label.length == word.length && memcmp(label.codes, word.codes, word.length) == 0;
+    size_t count = label.length - 1;
+    if (label.codes[0] != CHANGE_OF || count > q.length)
+        return 0;
+    return memcmp(label.codes + 1, q.codes + q.length - count, count) == 0 ? count : 0;
+}
+
+bool meant_to_count(const struct ledger *ledger, unsigned grant)
+{
+    return codes_spoken(ledger, grant) > 0;
+}
+
+bool meant_by_gap(const struct ledger *ledger, unsigned grant)
+{
+    size_t count = codes_spoken(ledger, grant);
+    return 0 < count && count < term_of_grant(ledger, grant, 1).length;
 }
 
 static void add_link(struct source *source, struct ledger *ledger, unsigned from, unsigned to, unsigned codes)
@@ -125,7 +139,7 @@ static void add_link(struct source *source, struct ledger *ledger, unsigned from
 }
 
 /* From one name of a chain to a later one. It doesn't count: its label is q, which is not visible under 21, or the
- * word of p, which doesn't speak for q. */
+ * word of p: who has the name of p alone holds that, and p, and not q. */
 static void add_shortcut(struct source *source, struct ledger *ledger, struct job job, const unsigned *chain)
 {
     unsigned from = below(source, job.n - 1), to = from + 1 + below(source, job.n - 1 - from);
@@ -161,6 +175,17 @@ static void add_against(struct source *source, struct ledger *ledger, struct job
     for (unsigned i = 0; i < job.n; i++)
         names[i] = chain[places[i]];
     add_breaking(source, ledger, job, names);
+}
+
+/* A both of the first of these names for a both of the same, or of fewer, with an either of the next; its label is the
+ * word of that either, which is all that p lacks. */
+static void add_by_gap(struct source *source, struct ledger *ledger, struct job job, const unsigned *names)
+{
+    unsigned count = names_of_breaking(job), left = 1 + below(source, count - 1), half = (job.codes - 1) / 2 | 1;
+    struct term p = tree(source, BOTH, names, left, job.codes), had = tree(source, BOTH, names, left, half);
+    struct term missing = tree(source, EITHER, names + left, count - left, job.codes - 1 - half);
+    struct term q = joined(BOTH, &had, &missing), label = prefixed(CHANGE_OF, &missing);
+    add_grant(ledger, &p, &q, &label);
 }
 
 /* Any one of the names for all of them: broken by a coalition that has some and not all. */
@@ -214,15 +239,30 @@ static struct source start_chain(struct call *call, struct job job, unsigned see
     return source;
 }
 
-/* A call on grants like those of a breaking ledger. */
-static void draw_breaking(struct source *source, struct call *call, struct job job)
+typedef void add_of_names(struct source *source, struct ledger *ledger, struct job job, const unsigned *names);
+
+/* A call on grants of one sort, each of names in another order. */
+static void draw_grants(struct source *source, struct call *call, struct job job, add_of_names *add)
 {
     unsigned names[NAMES];
     start_call(call, job);
     for (unsigned i = 0; i < job.grants; i++) {
         shuffle(source, names, 0, job.n);
-        add_breaking(source, &call->ledger, job, names);
+        add(source, &call->ledger, job, names);
     }
+}
+
+/* A call on grants like those of a breaking ledger. */
+static void draw_breaking(struct source *source, struct call *call, struct job job)
+{
+    draw_grants(source, call, job, add_breaking);
+}
+
+/* A call on a ledger by the gap. */
+static void start_by_gap(struct call *call, struct job job, unsigned seed)
+{
+    struct source source = {seed};
+    draw_grants(&source, call, job, add_by_gap);
 }
 
 /* A call on an early ledger. */
@@ -458,6 +498,38 @@ void make_derivation(struct call *call, struct job job, unsigned seed)
 {
     start_breaking(call, job, seed);
     set_derivation(call, job);
+}
+
+static void set_counting(struct call *call)
+{
+    struct term anyone = one_code(WEAKEST);
+    call->operation = DERIVATION;
+    add_step(&call->derivation, 1, 0, 0, 0, &anyone, &anyone);
+}
+
+void make_counting_chain(struct call *call, struct job job, unsigned seed)
+{
+    start_chain(call, job, seed);
+    set_counting(call);
+}
+
+void make_counting_by_voice(struct call *call, struct job job, unsigned seed)
+{
+    struct source source = {seed};
+    draw_breaking(&source, call, job);
+    set_counting(call);
+}
+
+void make_counting_by_gap(struct call *call, struct job job, unsigned seed)
+{
+    start_by_gap(call, job, seed);
+    set_counting(call);
+}
+
+void make_gap_extract(struct call *call, struct job job, unsigned seed)
+{
+    start_by_gap(call, job, seed);
+    set_extract(call);
 }
 
 static void set_short_form(struct call *call)

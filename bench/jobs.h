@@ -2,15 +2,18 @@
  * The jobs of the benchmark, and the calls on them.
  *
  * A job has n names, and grants whose p and q all have the same number of codes. All is asked under the label 21 and
- * on one day. A grant counts exactly if its label is its grantor's own word: 41 and then q. It has no days, or, in a
- * dated ledger, a first and a last day around that day.
+ * on one day. A grant counts exactly if its label is its grantor's own word: 41 and then q, or, in a ledger by the
+ * gap, 41 and then the part of q that p lacks. It has no days, or, in a dated ledger, a first and a last day around
+ * that day.
  *
- * There are four sorts of ledgers. In a chain each name is granted to act for the next one, the names in some order
+ * There are five sorts of ledgers. In a chain each name is granted to act for the next one, the names in some order
  * and the grants in another; other grants stand between these, and half of the others don't count. In a breaking
  * ledger every grant counts, and breaks a coalition that no other grant breaks: one that holds its p and not its q.
  * In an early one every grant counts too, and most coalitions break the first: that any of the names, or of as many as
  * there are codes for, acts for all of them together. In a ledger of quorums, of twelve names, every grant counts and
- * is of quorums alone: 6:12 of all names for 2:3 of 2:3s of nine, or such a 2:3 of 2:3s for 5:9 of its names.
+ * is of quorums alone: 6:12 of all names for 2:3 of 2:3s of nine, or such a 2:3 of 2:3s for 5:9 of its names. In a
+ * ledger by the gap every grant counts, and is spoken for the part that p lacks alone: its q is both of names that p
+ * has and an either of others.
  */
 #ifndef JOBS_H
 #define JOBS_H
@@ -46,6 +49,13 @@ make_call make_early_extract, make_early_yes, make_early_test, make_sound_test;
 /* On grants that need not break anything of their own: p and q of the first. */
 make_call make_granted_yes;
 
+/* A derivation of one step, 21 for 21 by rule 1: the library reads the ledger and judges every grant for it, and the
+ * reference none. It is accepted whatever counts, by an earlier archive too. On a chain; by the voice, on grants like
+ * those of a breaking ledger; on a ledger by the gap, of an odd number of codes from 3 up. */
+make_call make_counting_chain, make_counting_by_voice, make_counting_by_gap;
+
+make_call make_gap_extract;
+
 /* As those without "dated", on dated ledgers. */
 make_call make_dated_static_yes, make_dated_chain_yes, make_dated_chain_extract, make_dated_derivation;
 
@@ -73,8 +83,11 @@ make_call make_added_days;
 /* A no on the change side by one of the last 64 coalitions: nearly all were looked at. */
 bool is_late_no(uint32_t answer, unsigned n);
 
-/* Is the grant's label 41 and then q? */
+/* Is the grant's label 41 and then q, or then the last codes of q? */
 bool meant_to_count(const struct ledger *ledger, unsigned grant);
+
+/* Then not all of q? */
+bool meant_by_gap(const struct ledger *ledger, unsigned grant);
 
 bool is_dated(const struct ledger *ledger);
 

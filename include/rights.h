@@ -32,9 +32,11 @@
  * its days, its first and its last inside.
  *
  * The label. Every question is asked under a label, a term too. Within its days a grant counts under it if
- * the grant's own label flows to it (see rights_flows_to, here without grants) and speaks for q: whoever
- * holds d on the change side holds q on both. A coalition is sound on a side if no counting grant has its p
- * held there and its q not. Answers look at sound coalitions only: so grants make more questions a yes.
+ * the grant's own label d flows to it (see rights_flows_to, here without grants) and speaks for what p lacks
+ * of q: no coalition that holds d on the change side holds p without q, on the see side or on the change
+ * side. So `41 01` speaks for the grant that 00 acts for `30 00 01`; where p acts for q without any grant,
+ * every d speaks. A coalition is sound on a side if no counting grant has its p held there and its q not.
+ * Answers look at sound coalitions only: so grants make more questions a yes.
  *
  * Slices. A pointer and a length in bytes. Any length and any bytes are safe: what doesn't fit is refused.
  * With length 0 the pointer is not used and may be null. Otherwise it points to that many bytes, which
@@ -62,8 +64,10 @@ extern "C" {
  * for 0. Since 2, RIGHTS_SHORT_FORM_MIN is 3700; before, it was 16388. Since 3, every call but
  * rights_short_form takes a day, and a grant's block has days, with refusals 84 to 86; before, bytes 208 to
  * 215 were 00, and such a ledger is read as it was. Since 4, terms have quorums; before, `32` was no code.
+ * Since 5, a grant's label needs to speak only for what p lacks of q; before, for all of q, which is still
+ * enough: grants that counted count, others may now.
  */
-#define RIGHTS_VERSION 4
+#define RIGHTS_VERSION 5
 
 /* Sizes, in bytes unless said otherwise. */
 #define RIGHTS_NAMES_MAX 12        /* names of a job */

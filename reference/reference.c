@@ -1,7 +1,7 @@
 /*
  * Document 01 in plain C, section by section, one coalition at a time, with the days of document 02, K2, the test of a
- * coalition of K3 and the quorums of K4. Meant to be seen to be right, not to be fast. A refusal is its number; 0 says
- * that there is none.
+ * coalition of K3, the quorums of K4 and the gap of K6. Meant to be seen to be right, not to be fast. A refusal is its
+ * number; 0 says that there is none.
  */
 #include "reference.h"
 
@@ -131,11 +131,6 @@ bool held(struct term term, enum side side, unsigned coalition)
     return part_held(&next, side, coalition);
 }
 
-static bool voice_held_on_change_side(struct term q, unsigned coalition)
-{
-    return held(q, SEE, coalition) && held(q, CHANGE, coalition);
-}
-
 unsigned coalitions(unsigned n)
 {
     return 1u << n;
@@ -169,10 +164,31 @@ static bool visible(unsigned n, struct term d, struct term label)
     return true;
 }
 
-static bool spoken(unsigned n, struct term d, struct term q)
+/* Is a coalition marked that has the members of c and one more? */
+static bool one_more_marked(unsigned n, const bool *marks, unsigned c)
 {
+    for (unsigned name = 0; name < n; name++)
+        if (!(c >> name & 1) && marks[c | 1u << name])
+            return true;
+    return false;
+}
+
+/* Marks who doesn't hold the gap of p and q on the side: some coalition that contains it, perhaps itself, holds p there
+ * and not q. Those with one more have higher numbers and are marked before. */
+static void mark_lacking_gap(unsigned n, const struct grant *grant, enum side side, bool *lacks)
+{
+    for (unsigned c = coalitions(n); c-- > 0;)
+        lacks[c] = one_more_marked(n, lacks, c) || breaks(grant, side, c);
+}
+
+/* Does every coalition that holds the label on the change side hold the gap on both? */
+static bool spoken(unsigned n, const struct grant *grant)
+{
+    bool lacks[2][1 << NAMES];
+    mark_lacking_gap(n, grant, SEE, lacks[SEE]);
+    mark_lacking_gap(n, grant, CHANGE, lacks[CHANGE]);
     for (unsigned c = 0; c < coalitions(n); c++)
-        if (held(d, CHANGE, c) && !voice_held_on_change_side(q, c))
+        if (held(grant->label, CHANGE, c) && (lacks[SEE][c] || lacks[CHANGE][c]))
             return false;
     return true;
 }
@@ -184,8 +200,7 @@ static bool in_its_days(const struct grant *grant, uint32_t day)
 
 bool counts(unsigned n, const struct grant *grant, const struct under *under)
 {
-    return in_its_days(grant, under->day) && visible(n, grant->label, under->label)
-        && spoken(n, grant->label, grant->q);
+    return in_its_days(grant, under->day) && visible(n, grant->label, under->label) && spoken(n, grant);
 }
 
 /* Leaves only the grants that count. */

@@ -56,6 +56,59 @@ struct term joined(unsigned code, const struct term *a, const struct term *b)
     return term;
 }
 
+static size_t put_part(struct term *to, const struct term *term, size_t at, unsigned side);
+
+/* Leaves the part at a place out; gives the place behind it. */
+static size_t skip_part(const struct term *term, size_t at)
+{
+    struct term dropped = {0};
+    return put_part(&dropped, term, at, SEE_OF);
+}
+
+static size_t put_parts(struct term *to, const struct term *term, size_t at, unsigned side, unsigned parts)
+{
+    for (; parts > 0; parts--)
+        at = put_part(to, term, at, side);
+    return at;
+}
+
+/* Puts the part at a place as it is held on one side; gives the place behind it. */
+static size_t put_part(struct term *to, const struct term *term, size_t at, unsigned side)
+{
+    uint8_t code = term->codes[at++];
+    if (code == BOTH || code == EITHER) {
+        put_code(to, code);
+        return put_parts(to, term, at, side, 2);
+    }
+    if (code == QUORUM) {
+        unsigned k = term->codes[at], m = term->codes[at + 1];
+        put_quorum(to, k, m);
+        return put_parts(to, term, at + 2, side, m);
+    }
+    if (code == side)
+        return put_part(to, term, at, side);
+    if (code == SEE_OF || code == CHANGE_OF) {
+        put_code(to, WEAKEST);
+        return skip_part(term, at);
+    }
+    put_code(to, code);
+    return at;
+}
+
+void put_one_side(struct term *term, const struct term *part, unsigned side)
+{
+    put_part(term, part, 0, side);
+}
+
+struct term speaking_for(const struct term *term)
+{
+    struct term label = one_code(CHANGE_OF);
+    put_code(&label, BOTH);
+    put_one_side(&label, term, SEE_OF);
+    put_one_side(&label, term, CHANGE_OF);
+    return label;
+}
+
 struct term in_brackets(const struct term *text)
 {
     struct term longer = prefixed('(', text);

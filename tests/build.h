@@ -44,6 +44,12 @@ struct term one_code(unsigned code);
 struct term prefixed(unsigned code, const struct term *part);
 struct term joined(unsigned code, const struct term *a, const struct term *b);
 
+/* Puts a good term as it is held on one side, SEE_OF or CHANGE_OF, without projections. */
+void put_one_side(struct term *term, const struct term *part, unsigned side);
+
+/* A label that is held on the see side always, and on the change side where the good term is held on both. */
+struct term speaking_for(const struct term *term);
+
 /* A text in brackets. */
 struct term in_brackets(const struct term *text);
 

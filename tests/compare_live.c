@@ -116,6 +116,7 @@ enum sort {
     A_TWIN,
     A_COUNTING_TWIN,
     A_COUNTING_GRANT,
+    ONE_BY_THE_GAP,
     ANOTHER_GRANT,
     THE_LAST_PLACE,
     A_NUMBER_OF_64,
@@ -130,9 +131,9 @@ enum sort {
 };
 
 static const char *const sort_names[SORTS] = {
-    "added a twin", "a counting twin", "a counting grant", "one that doesn't count", "the 64th", "a number became 64",
-    "withdrew the first of several", "one in the middle", "the last of several", "the only one", "a counting one",
-    "one of twins", "made again",
+    "added a twin", "a counting twin", "a counting grant", "one by the gap alone", "one that doesn't count", "the 64th",
+    "a number became 64", "withdrew the first of several", "one in the middle", "the last of several", "the only one",
+    "a counting one", "one of twins", "made again",
 };
 
 struct sorts {
@@ -163,10 +164,12 @@ static bool has_number(const struct live *live, unsigned number)
 
 static void count_added(struct sorts *sorts, const struct live *before, const struct live *after)
 {
-    bool twin = is_held(before, after->ledger + live_length(before->head)), counts = !same_numbers(before, after);
+    const uint8_t *block = after->ledger + live_length(before->head);
+    bool twin = is_held(before, block), counts = !same_numbers(before, after);
     sorts->met[A_TWIN] += twin;
     sorts->met[A_COUNTING_TWIN] += twin && counts;
     sorts->met[counts ? A_COUNTING_GRANT : ANOTHER_GRANT]++;
+    sorts->met[ONE_BY_THE_GAP] += counts && lacks_voice((unsigned)after->head[LIVE_NAMES], block);
     if (after->head[LIVE_HELD] < GRANTS)
         return;
     sorts->met[THE_LAST_PLACE]++;

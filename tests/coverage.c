@@ -1,5 +1,9 @@
 #include "coverage.h"
 
+#include "reference.h"
+
+#include <string.h>
+
 /* The refusals of each operation, as the documents list them; 0 ends a list. */
 static const uint8_t refusals[EVERY_OPERATION][24] = {
     [ACTS_FOR] = {86, 10, 11, 12, 13, 14, 84, 85, 21, 22, 23, 24, 31, 32, 33, 34, 41, 42, 43, 44},
@@ -56,6 +60,75 @@ bool is_refusal(unsigned number)
     return false;
 }
 
+/* ---- Grants that count by the gap alone ---- */
+
+/* Asked of jobs of few names alone, since each grant takes calls of its own. */
+enum { FEW_NAMES = 5 };
+
+/* Operations whose calls have a ledger, a label and a day. */
+static const bool on_ledger[EVERY_OPERATION] = {
+    [ACTS_FOR] = true, [FLOWS_TO] = true,       [EXTRACT] = true,       [DERIVATION] = true,
+    [QUOTE] = true,    [TEST_COALITION] = true, [LIVE_ACTS_FOR] = true, [LIVE_FLOWS_TO] = true,
+};
+
+/* Is it a no that p acts for q without any grant? */
+static bool denied(unsigned n, const struct term *p, const struct term *q)
+{
+    static struct ledger plain;
+    struct term anyone = one_code(WEAKEST);
+    start_ledger(&plain, n);
+    return kind_of(reference_acts_for(plain.bytes, plain.length, p->codes, p->length, q->codes, q->length, anyone.codes,
+                                      anyone.length, 20240131)) == NO;
+}
+
+/* Does p lack something of q? */
+static bool lacks_part(unsigned n, const uint8_t *block)
+{
+    struct term p = term_of_block(block, 0), q = term_of_block(block, 1);
+    return denied(n, &p, &q);
+}
+
+bool lacks_voice(unsigned n, const uint8_t *block)
+{
+    struct term q = term_of_block(block, 1), label = term_of_block(block, 2), voice = speaking_for(&q);
+    return denied(n, &label, &voice);
+}
+
+/* Does the grant of a block count under the label on the day of a call? It stands alone in a ledger, and a step names
+ * it. */
+static bool counts_alone(unsigned n, const uint8_t *block, const struct call *call)
+{
+    static struct ledger alone;
+    static struct derivation step;
+    struct term p = term_of_block(block, 0), q = term_of_block(block, 1), label = term_of_block(block, 2);
+    start_ledger(&alone, n);
+    add_grant(&alone, &p, &q, &label);
+    memcpy(block_of(&alone, 1), block, BLOCK);
+    step.length = 0;
+    add_step(&step, 2, 0, 0, 0, &p, &q);
+    return kind_of(reference_check_derivation(step.bytes, step.length, alone.bytes, alone.length, call->label.codes,
+                                              call->label.length, call->day)) == YES;
+}
+
+static bool counts_by_gap(unsigned n, const uint8_t *block, const struct call *call)
+{
+    return lacks_part(n, block) && lacks_voice(n, block) && counts_alone(n, block, call);
+}
+
+/* Of a call that is not refused. */
+static bool has_gap_grant(const struct call *call)
+{
+    unsigned n = call->ledger.bytes[1];
+    if (!on_ledger[call->operation] || n > FEW_NAMES)
+        return false;
+    for (size_t at = BLOCK; at < call->ledger.length; at += BLOCK)
+        if (counts_by_gap(n, call->ledger.bytes + at, call))
+            return true;
+    return false;
+}
+
+/* ---- Counting ---- */
+
 /* Which of an operation's noes this is. */
 static unsigned no_of(enum operation operation, uint32_t number)
 {
@@ -71,8 +144,10 @@ void count_answer(struct coverage *coverage, const struct call *call, uint32_t n
         coverage->no[operation][no_of(operation, number)]++;
     else
         coverage->refused[operation][number % PER_STEP]++;
-    if (kind_of(number) != REFUSED)
-        coverage->with_quorum[operation] += has_quorum(call);
+    if (kind_of(number) == REFUSED)
+        return;
+    coverage->with_quorum[operation] += has_quorum(call);
+    coverage->by_gap[operation] += has_gap_grant(call);
 }
 
 void count_quote(struct coverage *coverage, const struct call *call, size_t length)
@@ -80,6 +155,7 @@ void count_quote(struct coverage *coverage, const struct call *call, size_t leng
     if (length > 0) {
         coverage->yes[QUOTE]++;
         coverage->with_quorum[QUOTE] += has_quorum(call);
+        coverage->by_gap[QUOTE] += has_gap_grant(call);
     } else {
         coverage->no[QUOTE][0]++;
     }
@@ -115,6 +191,8 @@ static unsigned print_operation(const struct coverage *coverage, unsigned operat
             missing += print_count(no_names[operation][i], coverage->no[operation][i], to);
     if (operation != ADD_DAYS && operation != LIVE_WITHDRAW)
         missing += print_count("with a quorum", coverage->with_quorum[operation], to);
+    if (on_ledger[operation])
+        missing += print_count("by the gap alone", coverage->by_gap[operation], to);
     missing += print_refusals(coverage, operation, to);
     fputc('\n', to);
     return missing;

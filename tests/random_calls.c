@@ -182,56 +182,6 @@ static struct term some_term(struct source *s, unsigned n)
     return one_in(s, 12) ? quorum_of_names(s, n) : random_term(s, n, random_size(s));
 }
 
-static size_t put_one_side(struct term *to, const struct term *term, size_t at, unsigned side);
-
-/* Leaves one part of the term out; gives the place behind it. */
-static size_t skip_part(const struct term *term, size_t at)
-{
-    struct term dropped = {0};
-    return put_one_side(&dropped, term, at, SEE_OF);
-}
-
-/* Puts so many parts from a place on as put_one_side does. */
-static size_t put_parts_of_one_side(struct term *to, const struct term *term, size_t at, unsigned side, unsigned parts)
-{
-    for (; parts > 0; parts--)
-        at = put_one_side(to, term, at, side);
-    return at;
-}
-
-/* Puts the part at a place as it is held on one side, without projections; gives the place behind it. */
-static size_t put_one_side(struct term *to, const struct term *term, size_t at, unsigned side)
-{
-    uint8_t code = term->codes[at++];
-    if (code == BOTH || code == EITHER) {
-        put_code(to, code);
-        return put_parts_of_one_side(to, term, at, side, 2);
-    }
-    if (code == QUORUM) {
-        unsigned k = term->codes[at], m = term->codes[at + 1];
-        put_quorum(to, k, m);
-        return put_parts_of_one_side(to, term, at + 2, side, m);
-    }
-    if (code == side)
-        return put_one_side(to, term, at, side);
-    if (code == SEE_OF || code == CHANGE_OF) {
-        put_code(to, WEAKEST);
-        return skip_part(term, at);
-    }
-    put_code(to, code);
-    return at;
-}
-
-/* A label that is held on the see side always, and on the change side where q is held on both. */
-static struct term speaking_for(const struct term *q)
-{
-    struct term label = one_code(CHANGE_OF);
-    put_code(&label, BOTH);
-    put_one_side(&label, q, 0, SEE_OF);
-    put_one_side(&label, q, 0, CHANGE_OF);
-    return label;
-}
-
 /* ---- Damaged terms ---- */
 
 static unsigned bad_code(struct source *s, unsigned n)
@@ -739,8 +689,56 @@ static struct term random_grant_label(struct source *s, unsigned n, const struct
     }
 }
 
+/* Few codes or a quorum, or one side of that. */
+static struct term some_part(struct source *s, unsigned n)
+{
+    struct term part = one_in(s, 4) ? quorum_of_names(s, n) : random_term(s, n, between(s, 1, 5));
+    return one_in(s, 3) ? prefixed(SEE_OF + below(s, 2), &part) : part;
+}
+
+/* Mostly it speaks for the part that p lacks; or it nearly does: for p instead, for one side of the part, or for the
+ * part or another. */
+static struct term label_for_part(struct source *s, unsigned n, const struct term *p, const struct term *missing)
+{
+    struct term label = one_code(CHANGE_OF), other;
+    switch (below(s, 8)) {
+    case 0:
+        return speaking_for(p);
+    case 1:
+        put_one_side(&label, missing, SEE_OF + below(s, 2));
+        return label;
+    case 2:
+        other = random_term(s, n, between(s, 1, 5));
+        other = joined(EITHER, missing, &other);
+        return speaking_for(&other);
+    default:
+        return speaking_for(missing);
+    }
+}
+
+/* q is both of two parts. p has the first alone, or with a part of its own; or p is one side of q, and lacks the
+ * other. Of such parts the longest label has less than 64 codes. */
+static void add_grant_of_part(struct source *s, struct ledger *ledger, unsigned n)
+{
+    struct term p = some_part(s, n), missing = some_part(s, n), own = random_term(s, n, between(s, 1, 5)), q, label;
+    unsigned draw = below(s, 4), side = below(s, 2);
+    q = one_in(s, 2) ? joined(BOTH, &p, &missing) : joined(BOTH, &missing, &p);
+    if (draw == 0) {
+        p = joined(BOTH, &p, &own);
+    } else if (draw == 1) {
+        p = prefixed(SEE_OF + side, &q);
+        missing = prefixed(CHANGE_OF - side, &q);
+    }
+    label = label_for_part(s, n, &p, &missing);
+    add_grant(ledger, &p, &q, &label);
+}
+
 void add_random_grant(struct source *s, struct ledger *ledger, unsigned n)
 {
+    if (one_in(s, 3)) {
+        add_grant_of_part(s, ledger, n);
+        return;
+    }
     struct term p = some_term(s, n), q = some_term(s, n);
     struct term label = random_grant_label(s, n, &q);
     add_grant(ledger, &p, &q, &label);

@@ -1,6 +1,7 @@
 /*
  * The worked cases A to L of document 01, and of document 02 the short form's buffer by K12, the notation by K1, days
- * by K2, the test of a coalition by K3, quorums by K4 and the live ledger by K5, on the reference and on the library.
+ * by K2, the test of a coalition by K3, quorums by K4, the live ledger by K5 and the spoken gap by K6, on the reference
+ * and on the library.
  */
 #include "calls.h"
 
@@ -45,11 +46,17 @@ static void put_grant(struct ledger *ledger, const char *p, const char *q, const
     add_grant(ledger, &tp, &tq, &tl);
 }
 
-static struct ledger granted(const char *label)
+/* Of two names, one grant. */
+static struct ledger one_grant(const char *p, const char *q, const char *label)
 {
     struct ledger ledger = plain();
-    put_grant(&ledger, "00", "01", label);
+    put_grant(&ledger, p, q, label);
     return ledger;
+}
+
+static struct ledger granted(const char *label)
+{
+    return one_grant("00", "01", label);
 }
 
 static uint32_t ask_on(question_call *question, const struct ledger *ledger, const char *p, const char *q,
@@ -658,7 +665,8 @@ static void all_tested(const struct engine *e, const struct ledger *ledger, uint
         expect(e, "K3", tested(e, ledger, side, c) == expected[c]);
 }
 
-/* Name 0 for 1, 1 for 0 and 0 for 1 again; the second of the four doesn't count, since 41 00 doesn't speak for 20. */
+/* Name 0 for 1, 1 for 0 and 0 for 1 again; the second of the four doesn't count, since coalition 1 holds 41 00, 00 and
+ * not 20. */
 static struct ledger to_and_fro(void)
 {
     struct ledger ledger = plain();
@@ -1072,8 +1080,7 @@ static uint32_t add_first(const struct engine *e, struct live *live, struct ledg
 
 static uint32_t add_to_live(const struct engine *e, struct live *live, const char *p, const char *q, const char *label)
 {
-    struct ledger ledger = plain();
-    put_grant(&ledger, p, q, label);
+    struct ledger ledger = one_grant(p, q, label);
     return add_first(e, live, &ledger);
 }
 
@@ -1285,6 +1292,95 @@ static void case_of_last_live_name(const struct engine *e)
     expect(e, "K5", ask_live(e->live->acts_for, &live, "41 0B", "41 0A") == no_on_change_side(2050));
 }
 
+/* ---- K6: only the missing part must be spoken ---- */
+
+/* 1. Name 0 acts for both of two names, of which it lacks 1: the word of 1 is enough. */
+static void case_of_missing_name(const struct engine *e)
+{
+    struct ledger l = one_grant("00", "30 00 01", own_word);
+    expect(e, "K6", ask(e->acts_for, &l, "00", "01", own_word) == yes());
+    expect(e, "K6", extract_is(e, &l, SOME_DAY, 0x0D));
+}
+
+/* 2 and 3. p lacks q on the see side alone: the word of p doesn't speak for that, the word of 1 does. */
+static void cases_of_missing_side(const struct engine *e)
+{
+    struct ledger by_p = one_grant("00", "40 01", "41 00"), by_q = one_grant("00", "40 01", own_word);
+    expect(e, "K6", ask(e->acts_for, &by_p, "00", "40 01", "21") == no_on_see_side(1));
+    expect(e, "K6", ask(e->acts_for, &by_q, "00", "40 01", own_word) == yes());
+}
+
+/* One step by rule 2 on the only grant of a ledger, asked under 21: accepted if it counts. */
+static uint32_t step_on_grant(const struct engine *e, const struct ledger *ledger)
+{
+    struct derivation d = {0};
+    struct term p = term_of_grant(ledger, 0, 0), q = term_of_grant(ledger, 0, 1), label = codes("21");
+    add_step(&d, 2, 0, 0, 0, &p, &q);
+    return e->check_derivation(d.bytes, d.length, ledger->bytes, ledger->length, label.codes, label.length, SOME_DAY);
+}
+
+/* 4. Where p statically acts for q any label speaks. The grant counts, and nobody breaks it: the extract is that
+ * without it. */
+static void case_of_nothing_missing(const struct engine *e)
+{
+    struct ledger l = one_grant("30 00 01", "00", "41 21"), p = plain();
+    expect(e, "K6", step_on_grant(e, &l) == yes());
+    expect(e, "K6", extract_of_two(e, &l, "21", SOME_DAY, 0x0F, 0));
+    expect(e, "K6", extract_of_two(e, &p, "21", SOME_DAY, 0x0F, 0));
+}
+
+/* 5. Case G: p lacks all of q, and its own word doesn't speak for that. */
+static void case_of_everything_missing(const struct engine *e)
+{
+    struct ledger g = granted("41 00");
+    expect(e, "K6", ask(e->acts_for, &g, "00", "01", "21") == no_on_see_side(1));
+}
+
+static void speaks(const struct engine *e, const char *p, const char *q, const char *label, bool spoken)
+{
+    struct ledger l = one_grant(p, q, label);
+    expect(e, "K6", step_on_grant(e, &l) == (spoken ? yes() : refused(66)));
+}
+
+/* p and q are asked on the same side, and on each; the label on the change side alone. */
+static void cases_of_sides_spoken(const struct engine *e)
+{
+    speaks(e, "00", "41 01", "41 00", false);
+    speaks(e, "00", "41 01", own_word, true);
+    speaks(e, "40 20", "40 00", "41 21", true);
+    speaks(e, "41 20", "40 00", "41 21", false);
+    speaks(e, "40 00", "00", "41 00", true);
+    speaks(e, "41 00", "30 00 01", "41 00", false);
+    speaks(e, "41 00", "30 00 01", "41 30 00 01", true);
+    speaks(e, "31 00 01", "30 00 01", "41 01", false);
+    speaks(e, "00", "20", "41 00", false);
+    speaks(e, "00", "20", nobodys_word, true);
+}
+
+/* A live ledger made under the word of 1, with the grant of 1. */
+static void case_of_live_gap(const struct engine *e)
+{
+    struct live live = new_live(e, 2);
+    expect(e, "K6", add_to_live(e, &live, "00", "30 00 01", own_word) == yes() && only_number_is(&live, 1, 1));
+    expect(e, "K6", ask_g(e, &live) == yes());
+    expect(e, "K6", withdraw(e, &live, 0) == yes() && only_number_is(&live, 1, 0));
+    expect(e, "K6", ask_g(e, &live) == no_on_see_side(1));
+}
+
+/* One made under 21: the grants that are spoken are counted, each on the sides on which it is broken. */
+static void cases_of_live_sides(const struct engine *e)
+{
+    struct live live;
+    expect(e, "K6", make_live(e, &live, 2, "21", LIVE_CASES_DAY) == yes());
+    expect(e, "K6", add_to_live(e, &live, "00", "40 01", "41 00") == yes() && only_number_is(&live, 1, 0));
+    expect(e, "K6", add_to_live(e, &live, "30 00 01", "00", "41 21") == yes() && only_number_is(&live, 1, 0));
+    expect(e, "K6", add_to_live(e, &live, "00", "40 01", own_word) == yes());
+    expect(e, "K6", number_at(live.numbers, SEE, 1) == 1 && number_at(live.numbers, CHANGE, 1) == 0);
+    expect(e, "K6", add_to_live(e, &live, "00", "30 00 01", own_word) == yes());
+    expect(e, "K6", number_at(live.numbers, SEE, 1) == 2 && number_at(live.numbers, CHANGE, 1) == 1);
+    expect(e, "K6", withdraw(e, &live, 2) == yes() && only_number_is(&live, 1, 1));
+}
+
 static void all_cases(const struct engine *e)
 {
     checks_of_the_ledgers(e);
@@ -1336,6 +1432,13 @@ static void all_cases(const struct engine *e)
     case_of_full_live(e);
     cases_of_live_refusals(e);
     case_of_last_live_name(e);
+    case_of_missing_name(e);
+    cases_of_missing_side(e);
+    case_of_nothing_missing(e);
+    case_of_everything_missing(e);
+    cases_of_sides_spoken(e);
+    case_of_live_gap(e);
+    cases_of_live_sides(e);
 }
 
 int main(void)
@@ -1344,6 +1447,6 @@ int main(void)
     all_cases(&library_engine);
     if (failures)
         return 1;
-    puts("worked cases A to L, K12 and K1 to K5: same, by the reference and by the library");
+    puts("worked cases A to L, K12 and K1 to K6: same, by the reference and by the library");
     return 0;
 }

@@ -27,7 +27,7 @@ use Rattle.words.proofs.AnyBytes.{names-taken}
 use Rattle.words.proofs.Names.{rows_full, rows_few, rows_few_of}
 use Rattle.words.proofs.Searches.{clear_all}
 use Rattle.ledgers.specs.Places.{q_place, label_place}
-use Rattle.counting.specs.Counted.{grant_in, hides, breaks_some, bars_counting, bars_at, joined_by, bars_with, none_bars, heard_at, NamesAt, NeededOf, ClearAt, FirstCleared}
+use Rattle.counting.specs.Counted.{grant_in, hides, breaks_some, bars_counting, bars_at, joined_by, heard_at, NamesAt, NeededOf, ClearAt, FirstCleared}
 use Rattle.std.specs.Bool.{MatchBool}
 use Rattle.std.specs.List.{filter, fold, AllWithin, HoldsAt, range_with_len}
 use Rattle.std.proofs.lemmas.List.FromFn.{get_or-range_with_len, length-range_with_len}
@@ -213,51 +213,66 @@ needed_few ledger n k label a b r h L d q =
     let up' : b ≤ r = q.most in
     let eight : 8 ≤ r = omega (arith, L.most) in
     let worth : 2 ^ job_of n - 2 ^ job_of r ≡ 256 * (row_count n - row_count r) = omega (arith, rows_full (job_of n) (omega arith), rows_full (job_of r) (omega arith)) in
-    subst (λ (more : ℕ). every (λ c. not (bars_counting (held (term_in label)) (joined_by more (marks_of (grant_in ledger k))) c)) (2 ^ job_of r) ≡ heard_at ledger n label k) worth
-    (heard_more (job_of r) (job_of n) (term_in label) (grant_in ledger k) (omega arith)
-    (names_more a (job_of r) _ (λ i l m. omega arith) L.below) (names_more b (job_of r) _ (λ i l m. omega arith) d.below) (names_more r (job_of r) _ (λ i l m. omega arith) q.below))
+    record {
+      few = omega arith;
+      alike = subst (λ (more : ℕ). every (λ c. not (bars_counting (held (term_in label)) (joined_by more (marks_of (grant_in ledger k))) c)) (2 ^ job_of r) ≡ heard_at ledger n label k) worth
+          (heard_more (job_of r) (job_of n) (term_in label) (grant_in ledger k) (omega arith)
+          (names_more a (job_of r) _ (λ i l m. omega arith) L.below) (names_more b (job_of r) _ (λ i l m. omega arith) d.below) (names_more r (job_of r) _ (λ i l m. omega arith) q.below));
+    }
 
 -- all n names are enough
 pub needed_all : (ledger : List ℕ) (n k : ℕ) (label : List ℕ) → NeededOf ledger n k label n
 needed_all ledger n k label =
     let none : row_count n - row_count n ≡ 0 = omega arith in
     let g = marks_of (grant_in ledger k) in
-    rw none
-    (ap (λ (f : ℕ → Bool). every f (2 ^ job_of n)) (fun_ext (λ c. ap not (none_further (held (term_in label)) g c)))
-    ∙ sym (heard_bars (job_of n) (held (term_in label)) g (held_monotone (job_of n) (grant_in ledger k).label integrity)))
+    record {
+      few = omega arith;
+      alike = rw none
+          (ap (λ (f : ℕ → Bool). every f (2 ^ job_of n)) (fun_ext (λ c. ap not (none_further (held (term_in label)) g c)))
+          ∙ sym (heard_bars (job_of n) (held (term_in label)) g (held_monotone (job_of n) (grant_in ledger k).label integrity)));
+    }
 
--- ---- a row that is looked at, and all of them
+-- ---- rows that are looked at, one after the other
 
--- no coalition of row g bars the grant, p being asked so many rows further on, and some coalition of a row does
-unfoldable pub RowClear : List ℕ → List ℕ → ℕ → ℕ → ℕ → ℕ → Type 0
-RowClear ledger label k rows n g = g < row_count n → (c : ℕ) → 256 * g ≤ c → c < 256 * g + 256 → mark (job_of n) (bars_with ledger label k rows) c ≡ false
+-- a test of each row
+pub all_every : (f : ℕ → Bool) (r : Bool) (to : ℕ)
+    → MatchBool r (AllWithin (λ g. f g ≡ true) (range_with_len 0 to) 0 (length (range_with_len 0 to)))
+    ((i : ℕ) × (i < length (range_with_len 0 to)) × HoldsAt (λ g. f g ≡ false) (range_with_len 0 to) i)
+    → r ≡ every f to
+all_every f true to m = sym (every_intro f to (λ g l.
+    let there : get_or (range_with_len 0 to) g 0 ≡ g = get_or-range_with_len 0 to g 0 l ∙ zero-add g in
+    rw there at (m g 0 (omega arith) (omega (arith, length-range_with_len 0 to)))))
+all_every f false to m =
+    let below : m.0 < to = omega (arith, m.1, length-range_with_len 0 to) in
+    let there : get_or (range_with_len 0 to) m.0 0 ≡ m.0 = get_or-range_with_len 0 to m.0 0 below ∙ zero-add m.0 in
+    sym (false_of (every f to) (λ t. clash (every_elim f to t m.0 below) (rw there at (m.2 0))))
 
-unfoldable pub RowBars : List ℕ → List ℕ → ℕ → ℕ → ℕ → ℕ → Type 0
-RowBars ledger label k rows n g = g < row_count n → none_bars ledger label k rows n ≡ false
+-- a row tells: no coalition of n names in it is one of f, or some coalition is
+module _ (f : ℕ → Bool) (n : ℕ) where
+  unfoldable pub RowClear : ℕ → Type 0
+  RowClear g = g < row_count n → (c : ℕ) → 256 * g ≤ c → c < 256 * g + 256 → mark (job_of n) f c ≡ false
 
--- what a row of tables tells
-abbrev pub ToldBy : List ℕ → List ℕ → ℕ → ℕ → ℕ → ℕ → Bool → Type 0
-ToldBy ledger label k rows n g r = g < row_count n → g + rows < 2 ^ 64 → ClearAt (mark n (bars_with ledger label k rows)) g r
+  unfoldable pub RowBars : ℕ → Type 0
+  RowBars g = g < row_count n → every (λ c. not (f c)) (2 ^ job_of n) ≡ false
 
-module _ (ledger label : List ℕ) (k rows n : ℕ) (few : rows ≤ 16) where
   -- the row's coalitions among those of the job
-  row_job : (g : ℕ) (x : Row) → g < row_count n → RowAt (mark n (bars_with ledger label k rows)) g x → RowAt (mark (job_of n) (bars_with ledger label k rows)) g x
-  row_job g x l r = marked_job n g (bars_with ledger label k rows) x (omega (arith, rows_few n)) r
+  row_job : (g : ℕ) (x : Row) → g < row_count n → RowAt (mark n f) g x → RowAt (mark (job_of n) f) g x
+  row_job g x l r = marked_job n g f x (omega (arith, rows_few n)) r
 
-  pub told_clear : (g : ℕ) → ToldBy ledger label k rows n g true → RowClear ledger label k rows n g
+  pub told_clear : (g : ℕ) → (g < row_count n → ClearAt (mark n f) g true) → RowClear g
   unfolding RowClear
-  told_clear g h l = let d = h l (omega (arith, rows_few n)) in row_empty (mark (job_of n) (bars_with ledger label k rows)) g d.row (row_job g d.row l d.is) (sym d.told)
+  told_clear g h l = let d = h l in row_empty (mark (job_of n) f) g d.row (row_job g d.row l d.is) (sym d.told)
 
-  pub told_bars : (g : ℕ) → ToldBy ledger label k rows n g false → RowBars ledger label k rows n g
+  pub told_bars : (g : ℕ) → (g < row_count n → ClearAt (mark n f) g false) → RowBars g
   unfolding RowBars
-  told_bars g h l = let d = h l (omega (arith, rows_few n)) in sym (clear_not (job_of n) (bars_with ledger label k rows) g d.row (row_job g d.row l d.is) (sym d.told))
+  told_bars g h l = let d = h l in sym (clear_not (job_of n) f g d.row (row_job g d.row l d.is) (sym d.told))
 
   pub rows_cleared : (r : Bool) (to : ℕ) → to ≡ row_count n
-      → MatchBool r (AllWithin (RowClear ledger label k rows n) (range_with_len 0 to) 0 (length (range_with_len 0 to)))
-      ((i : ℕ) × (i < length (range_with_len 0 to)) × HoldsAt (RowBars ledger label k rows n) (range_with_len 0 to) i)
-      → r ≡ none_bars ledger label k rows n
+      → MatchBool r (AllWithin RowClear (range_with_len 0 to) 0 (length (range_with_len 0 to)))
+      ((i : ℕ) × (i < length (range_with_len 0 to)) × HoldsAt RowBars (range_with_len 0 to) i)
+      → r ≡ every (λ c. not (f c)) (2 ^ job_of n)
   unfolding RowClear RowBars
-  rows_cleared true to e m = clear_all (job_of n) (bars_with ledger label k rows) (omega arith) (λ c h.
+  rows_cleared true to e m = clear_all (job_of n) f (omega arith) (λ c h.
       let g = c / 256 in
       let below : g < to = omega (arith, rows_few_of n) in
       let there : get_or (range_with_len 0 to) g 0 ≡ g = get_or-range_with_len 0 to g 0 below ∙ zero-add g in

@@ -1,17 +1,19 @@
 -- Which grants count, on any bytes (document 01, "Grants that count"; document 02, K2 and K6). Assumes nothing: these are definitions.
-use Rattle.std.specs.Prelude.{◌≡◌, Bool, false, cond, not, ◌&&◌, ◌||◌, List, ℕ, ◌+◌, ◌-◌, ◌*◌, ◌^◌, ◌≤◌, ◌<◌, ltb, drop}
+use Rattle.std.specs.Prelude.{◌≡◌, Bool, true, false, cond, not, ◌&&◌, ◌||◌, List, ℕ, ◌+◌, ◌-◌, ◌*◌, ◌%◌, ◌^◌, ◌≤◌, ◌<◌, ltb, drop}
+use Rattle.std.specs.Int.Bits.{bit_and}
 use Rattle.model.specs.Sides.{confidentiality, integrity}
 use Rattle.model.specs.Bytes.{four_bytes}
-use Rattle.model.specs.Coalitions.{member, Marks, every, packed}
-use Rattle.model.specs.Terms.{NamesBelow, held}
+use Rattle.model.specs.Coalitions.{member, Marks, every, mark, packed}
+use Rattle.model.specs.Terms.{Term, NamesBelow, held}
 use Rattle.model.specs.Dates.{in_days}
 use Rattle.model.specs.Grants.{Grant, GrantMarks, marks_of, breaks, heard, under, counts_under}
 use Rattle.words.specs.AnyBytes.{term_in}
 use Rattle.words.specs.declared.Row.{Row}
 use Rattle.words.specs.declared.Rows.{Rows}
-use Rattle.words.specs.FourWords.{RowAt, RowsAt, lacks, empty_row}
+use Rattle.words.specs.FourWords.{RowAt, RowsAt, each_word, lacks, lacks_word, empty_row}
 use Rattle.words.specs.Evaluation.{job_of, row_count}
 use Rattle.ledgers.specs.Places.{p_place, q_place, label_place, days_place}
+use Rattle.tables.specs.declared.Table.{Table}
 use Rattle.tables.specs.Filling.{rows_of}
 use Rattle.counting.specs.declared.Known.{Known}
 use Rattle.counting.specs.declared.Judged.{Judged}
@@ -95,14 +97,21 @@ pub record NamesAt (bytes : List ℕ) (at least r : ℕ) : Type 0 where
   pub below : NamesBelow r (term_in (drop at bytes))
 
 -- Grant k is heard under the label exactly if no coalition of r of the n names bars it where p is asked with all the others among the members: in the last rows.
-abbrev pub NeededOf : List ℕ → ℕ → ℕ → List ℕ → ℕ → Type 0
-NeededOf ledger n k label r = none_bars ledger label k (row_count n - row_count r) r ≡ heard_at ledger n label k
+pub record NeededOf (ledger : List ℕ) (n k : ℕ) (label : List ℕ) (r : ℕ) : Type 0 where
+  pub few : r ≤ n
+  pub alike : none_bars ledger label k (row_count n - row_count r) r ≡ heard_at ledger n label k
 
--- Of whatever label and row the first rows are, and the others of the label of grant k and of its q, r is the row of those that bar the grant, p being asked in row `at`.
-abbrev pub BarredAt : List ℕ → ℕ → ℕ → Rows → Rows → Rows → Row → Type 0
-BarredAt ledger k at under own q r =
-    (L : Marks) (g more : ℕ) → at ≡ g + more → RowsAt L g under → RowsAt (held (grant_in ledger k).label) g own → RowsAt (held (grant_in ledger k).q) g q
-    → RowAt (bars_counting L (joined_by (256 * more) (marks_of (grant_in ledger k)))) g r
+-- those of a row that change the grant's label and don't hold the voice of q
+abbrev pub unvoiced_row : Rows → Rows → Row
+unvoiced_row own q = each_word lacks_word own.change (each_word bit_and q.see q.change)
+
+-- row g of the tables has none
+abbrev pub voiced_at : Judged → ℕ → Bool
+voiced_at judged g = empty_row (unvoiced_row (rows_of judged.own (g % 16)) (rows_of judged.q (g % 16)))
+
+-- the table holds the rows of a term that n names have
+abbrev pub TableOf : Term → ℕ → Table → Type 0
+TableOf t n table = (g : ℕ) → g < row_count n → RowsAt (held t) g (rows_of table g)
 
 -- no coalition of row g is one of f exactly if r is true, as the row tells
 pub record ClearAt (f : ℕ → Bool) (g : ℕ) (r : Bool) : Type 0 where
@@ -110,11 +119,22 @@ pub record ClearAt (f : ℕ → Bool) (g : ℕ) (r : Bool) : Type 0 where
   pub is : RowAt f g row
   pub told : r ≡ empty_row row
 
--- Of the rows that n names have, the tables hold those of the label, of the label of grant k and of its q.
+-- the tables hold those of the label, of the label of grant k and of its q
 pub record JudgedAt (ledger : List ℕ) (n k : ℕ) (label : List ℕ) (judged : Judged) : Type 0 where
-  pub under : (g : ℕ) → g < row_count n → RowsAt (held (term_in label)) g (rows_of judged.under g)
-  pub own : (g : ℕ) → g < row_count n → RowsAt (held (grant_in ledger k).label) g (rows_of judged.own g)
-  pub q : (g : ℕ) → g < row_count n → RowsAt (held (grant_in ledger k).q) g (rows_of judged.q g)
+  pub under : TableOf (term_in label) n judged.under
+  pub own : TableOf (grant_in ledger k).label n judged.own
+  pub q : TableOf (grant_in ledger k).q n judged.q
+
+-- Where row g of the tables of a grant has none that is unvoiced, r tells whether some coalition of n names in it bars the grant, wherever p is asked,
+unfoldable pub SeenAt : Judged → ℕ → ℕ → Bool → Type 0
+SeenAt judged n g r =
+    (ledger label : List ℕ) (k more : ℕ) → JudgedAt ledger n k label judged → g < row_count n → voiced_at judged g ≡ true → ClearAt (mark n (bars_with ledger label k more)) g r
+
+-- and so it does anywhere from a table of p, asked so many rows further on.
+unfoldable pub AskedAt : Judged → Table → ℕ → ℕ → ℕ → Bool → Type 0
+AskedAt judged p n more g r =
+    (ledger label : List ℕ) (names k : ℕ) → JudgedAt ledger n k label judged → TableOf (grant_in ledger k).p names p → g < row_count n → g + more < row_count names
+    → ClearAt (mark n (bars_with ledger label k more)) g r
 
 -- What the first row tells: where r is false the grant is not heard, and up to eight names have no other row.
 pub record FirstCleared (ledger : List ℕ) (n k : ℕ) (label : List ℕ) (r : Bool) : Type 0 where

@@ -1,12 +1,12 @@
 // Which grants count under a label, on a day (document 01, "Grants that count"; document 02, K2 and K6).
 #![tactic(auto)]
 
-ghost use Rattle.std.specs.Prelude.{◌≡◌, ℕ, ◌+◌, ◌-◌, ◌^◌, ◌<◌};
-ghost use Rattle.model.specs.Coalitions.{member, Marks, mark};
+ghost use Rattle.std.specs.Prelude.{◌≡◌, Bool, true, List, ℕ, ◌+◌, ◌-◌, ◌≤◌};
+ghost use Rattle.model.specs.Coalitions.{member, Marks, every, mark};
 ghost use Rattle.model.specs.Grants.{GrantMarks};
 ghost use Rattle.words.specs.FourWords.{RowAt, RowsAt};
 ghost use Rattle.words.specs.Evaluation.{row_count};
-ghost use Rattle.counting.specs.Counted.{hides, breaks_some, bars_at, bars_with, none_bars, BarredAt, ClearAt, JudgedAt, heard_at, on_day, counts_at, counted_in, nothing_known, judged_at, NamesAt, NeededOf, FirstCleared};
+ghost use Rattle.counting.specs.Counted.{grant_in, hides, breaks_some, bars_counting, bars_at, none_bars, unvoiced_row, voiced_at, TableOf, ClearAt, SeenAt, AskedAt, JudgedAt, heard_at, on_day, counts_at, counted_in, nothing_known, judged_at, NamesAt, NeededOf, FirstCleared};
 
 use ledgers::Sizes;
 use tables::Table;
@@ -42,8 +42,28 @@ fn lacking(p: Rows, q: Rows) -> Row
     )
 }
 
+// Those of a row that change the grant's label and don't hold the voice of q. None but these may break the grant.
+fn unvoiced(own: Rows, q: Rows) -> Row
+    ensures { result ≡ unvoiced_row own q }
+{
+    words::without(own.change, words::both(q.see, q.change))
+}
+
+// Those of a row that bar a grant from counting under a label, from the rows of the label and of the grant's label, q and p.
+fn barred(under: Rows, own: Rows, q: Rows, p: Rows) -> Row
+    ensures { (L : Marks) (d : GrantMarks) (g : ℕ) → RowsAt L g under → RowsAt d.label g own → RowsAt d.q g q → RowsAt d.p g p → RowAt (bars_counting L d) g result }
+{
+    words::either(hidden(under, own), words::both(own.change, lacking(p, q)))
+}
+
+// Of row g there is no coalition of n names.
+fn none_of(n: u64, g: u64, row: Row) -> bool
+    ensures { (f : ℕ → Bool) → RowAt f g row → ClearAt (mark n f) g result }
+{
+    words::empty(words::both(words::low_row(n, g), row))
+}
+
 // All rows of a label, of a grant's label and of its q.
-// Kept: p has no table, since most grants that count do so by the voice of q, and need no row of it.
 #[derive(Drop)]
 struct Judged {
     under: Table,
@@ -63,14 +83,41 @@ impl Judged {
             .hold(asked.ledger, ledgers::term_place(k, ledgers::Q), n);
     }
 
-    // No coalition of n names in row g bars grant k from counting under the label, where p is asked so many rows further on.
-    fn is_clear(&self, asked: &Asked<'_>, n: u64, k: usize, g: u64, more: u64) -> bool
-        ensures { JudgedAt asked.now.ledger.now n k asked.now.label.now self.now → g < row_count n → g + more < 2 ^ 64 → ClearAt (mark n (bars_with asked.now.ledger.now asked.now.label.now k more)) g result }
+    // In no row of n names is any unvoiced.
+    fn is_voiced(&self, n: u64) -> bool
+        ensures { result ≡ every (voiced_at self.now) (row_count n) }
     {
-        let at = g.wrapping_add(more);
-        let bars = asked.barred(k, at, self.under.rows(g), self.own.rows(g), self.q.rows(g));
-        let all = words::low_row(n, g);
-        words::empty(words::both(all, bars))
+        (0..words::row_count(n)).all(|g| words::empty(unvoiced(self.own.rows(g), self.q.rows(g))))
+    }
+
+    // No coalition of n names in row g hides the grant. Where none is unvoiced, no other bars it.
+    fn is_seen(&self, n: u64, g: u64) -> bool
+        ensures { SeenAt self.now n g result }
+    {
+        none_of(n, g, hidden(self.under.rows(g), self.own.rows(g)))
+    }
+
+    // No coalition of n names in row g bars the grant from counting under the label, where p is asked so many rows further on.
+    fn is_clear(&self, p: &Table, n: u64, g: u64, more: u64) -> bool
+        ensures { AskedAt self.now p.now n more g result }
+    {
+        let own = self.own.rows(g);
+        let asked = p.rows(g.wrapping_add(more));
+        none_of(n, g, barred(self.under.rows(g), own, self.q.rows(g), asked))
+    }
+
+    // No coalition of n names hides the grant, of which none is unvoiced.
+    fn all_seen(&self, n: u64) -> bool
+        ensures { (ledger label : List ℕ) (k more : ℕ) → JudgedAt ledger n k label self.now → every (voiced_at self.now) (row_count n) ≡ true → result ≡ none_bars ledger label k more n }
+    {
+        (0..words::row_count(n)).all(|g| self.is_seen(n, g))
+    }
+
+    // No coalition of n names bars the grant from counting under the label, where p is asked so many rows further on.
+    fn all_clear(&self, p: &Table, n: u64, more: u64) -> bool
+        ensures { (ledger label : List ℕ) (names k : ℕ) → JudgedAt ledger n k label self.now → TableOf (grant_in ledger k).p names p.now → row_count n + more ≤ row_count names → result ≡ none_bars ledger label k more n }
+    {
+        (0..words::row_count(n)).all(|g| self.is_clear(p, n, g, more))
     }
 }
 
@@ -84,21 +131,7 @@ pub struct Asked<'a> {
 }
 
 impl Asked<'_> {
-    // Those of a row that bar grant k from counting under the label, from the rows of the label, of the grant's label and of its q; p is asked in row `at`. There is
-    // no need of it where all that change the grant's label hold the voice of q: they break no grant of q.
-    fn barred(&self, k: usize, at: u64, under: Rows, own: Rows, q: Rows) -> Row
-        ensures { BarredAt self.now.ledger.now k at under own q result }
-    {
-        let unseen = hidden(under, own);
-        let voice = words::both(q.see, q.change);
-        if words::empty(words::without(own.change, voice)) {
-            return unseen;
-        }
-        let p = words::hold(self.ledger, ledgers::term_place(k, ledgers::P), at).rows;
-        words::either(unseen, words::both(own.change, lacking(p, q)))
-    }
-
-    // Those of row g that bar grant k from counting under the label. Where none changes the grant's label there is no need of q.
+    // Those of row g that bar grant k from counting under the label. Where none changes the grant's label there is no need of q, and where none is unvoiced none of p.
     fn barring(&self, k: usize, g: u64) -> Row
         ensures { RowAt (bars_at self.now.ledger.now self.now.label.now k) g result }
     {
@@ -108,7 +141,11 @@ impl Asked<'_> {
             return words::without(under.see, own.see);
         }
         let q = words::hold(self.ledger, ledgers::term_place(k, ledgers::Q), g).rows;
-        self.barred(k, g, under, own, q)
+        if words::empty(unvoiced(own, q)) {
+            return hidden(under, own);
+        }
+        let p = words::hold(self.ledger, ledgers::term_place(k, ledgers::P), g).rows;
+        barred(under, own, q, p)
     }
 
     // And those that are coalitions of n names. The mask is needed only where there are any.
@@ -140,18 +177,24 @@ impl Asked<'_> {
         words::empty(self.barring_of(self.sizes.names, k, 0))
     }
 
-    // No coalition of n of the names bars grant k, where p is asked with all the others among the members: in the last rows.
+    // No coalition of n of the names bars grant k, where p is asked with all the others among the members: in the last rows. Where none is unvoiced, p is not asked.
     fn rows_clear(&self, n: u64, k: usize) -> bool
-        ensures { result ≡ none_bars self.now.ledger.now self.now.label.now k (row_count self.now.sizes.names - row_count n) n }
+        ensures { n ≤ self.now.sizes.names → result ≡ none_bars self.now.ledger.now self.now.label.now k (row_count self.now.sizes.names - row_count n) n }
     {
-        let more = words::row_count(self.sizes.names).saturating_sub(words::row_count(n));
         let mut judged = Judged {
             under: Table::new(),
             own: Table::new(),
             q: Table::new(),
         };
         judged.hold(self, n, k);
-        (0..words::row_count(n)).all(|g| judged.is_clear(self, n, k, g, more))
+        if judged.is_voiced(n) {
+            return judged.all_seen(n);
+        }
+        let mut p = Table::new();
+        let place = ledgers::term_place(k, ledgers::P);
+        p.hold(self.ledger, place, self.sizes.names);
+        let more = words::row_count(self.sizes.names).saturating_sub(words::row_count(n));
+        judged.all_clear(&p, n, more)
     }
 
     // The same of as many names as there is need to ask.

@@ -1,21 +1,21 @@
-use Rattle.std.proofs.Common.{rules, tests, ◌≡◌, ◌-◌}
-use Rattle.std.proofs.lemmas.Iterator.{cases_from_all, YieldsList-from_range}
+use Rattle.std.proofs.Common.{◌≡◌, ◌-◌, ◌≤◌}
+use mathlib.Core.Path.{sym, ◌∙◌}
 use native.Mathlib.Omega.{arith}
+use lib.Pow.{pow_mono}
+use Prim.Native.Nat.{min}
 use Rattle.words.specs.Evaluation.{row_count}
-use Rattle.words.proofs.Names.{rows_few}
-use Rattle.counting.proofs.Few.{RowClear, RowBars, told_clear, told_bars, rows_cleared}
 use Rattle.counting.proofs.Asked.rows_clear.Goals as goal
 
-pub returns : goal.returns
-returns c =
+pub returns-then-is_voiced : goal.returns-then-is_voiced
+returns-then-is_voiced c fits =
     let a = c.args in
-    let ledger = a.self.now.ledger.now in
-    let label = a.self.now.label.now in
-    let rows = c.saturating_sub-more.result in
-    let to = c.row_count-3.result in
-    let few = rows_few a.self.now.sizes.names in
-    let is : rows ≡ row_count a.self.now.sizes.names - row_count a.n = omega arith in
-    rw is at (rows_cleared ledger label a.k rows a.n (omega (arith, few)) _ to c.row_count-3.ensures
-    (cases_from_all _ _ _ (RowClear ledger label a.k rows a.n) (RowBars ledger label a.k rows a.n) c.all.ensures.ran (YieldsList-from_range _ to to (cc) (search rules))
-    (λ x q k. (search (rules, tests), told_clear ledger label a.k rows a.n (omega (arith, few)) x (search (rules, tests))))
-    (λ x q k. told_bars ledger label a.k rows a.n (omega (arith, few)) x (search (rules, tests)))))
+    c.all_seen.ensures a.self.now.ledger.now a.self.now.label.now a.k _ c.hold.ensures (sym c.is_voiced.ensures ∙ c.if-is_voiced.true)
+
+pub returns : goal.returns
+returns c fits =
+    let a = c.args in
+    let names = a.self.now.sizes.names in
+    let powers : min a.n 12 - 8 ≤ min names 12 - 8 = omega arith in
+    let few : row_count a.n ≤ row_count names = pow_mono powers in
+    let is : c.saturating_sub-more.result ≡ row_count names - row_count a.n = omega arith in
+    rw is at (c.all_clear.ensures a.self.now.ledger.now a.self.now.label.now names a.k c.hold.ensures (rw c.term_place-place.ensures at c.hold-2.ensures) (omega arith))

@@ -1,18 +1,20 @@
-use Rattle.std.specs.Prelude.{◌≡◌, ◌+◌, ◌%◌, ◌^◌}
+use Rattle.std.specs.Prelude.{◌≡◌, ◌+◌, ◌*◌, ◌%◌, ◌^◌}
 use native.Mathlib.Omega.{arith}
+use Rattle.model.specs.Terms.{held}
+use Rattle.model.specs.Grants.{marks_of}
+use Rattle.words.specs.AnyBytes.{term_in}
 use Rattle.words.proofs.Names.{rows_few}
-use Rattle.counting.proofs.Tests.{marked_row}
+use Rattle.counting.specs.Counted.{grant_in, joined_by, AskedAt}
+use Rattle.counting.proofs.Tests.{rows_further}
 use Rattle.counting.proofs.Judged.is_clear.Goals as goal
 
 pub returns : goal.returns
-returns c judged l far =
+unfolding AskedAt
+returns c ledger label names k j held_p l far =
     let a = c.args in
     let small : a.g % 16 ≡ a.g = omega (arith, rows_few a.n) in
-    let at : (a.g + a.more) % 2 ^ 64 ≡ a.g + a.more = omega arith in
-    record {
-      row = c.both.result;
-      is = marked_row _ _ _ _
-          (c.barred-bars.ensures _ a.g a.more at (rw (c.rows.ensures, small) (judged.under a.g l)) (rw (c.rows-2.ensures, small) (judged.own a.g l)) (rw (c.rows-3.ensures, small) (judged.q a.g l)))
-          _ _ c.low_row-all.ensures c.both.ensures;
-      told = c.empty.ensures;
-    }
+    let at : (a.g + a.more) % 2 ^ 64 % 16 ≡ a.g + a.more = omega (arith, rows_few names) in
+    c.none_of.ensures _
+    (c.barred.ensures (held (term_in label)) (joined_by (256 * a.more) (marks_of (grant_in ledger k))) a.g
+    (rw (c.rows.ensures, small) (j.under a.g l)) (rw (c.rows-own.ensures, small) (j.own a.g l)) (rw (c.rows-2.ensures, small) (j.q a.g l))
+    (rows_further (held (grant_in ledger k).p) a.g a.more _ (rw (c.rows-asked.ensures, at) (held_p (a.g + a.more) far))))

@@ -3,7 +3,7 @@ use mathlib.Core.Path.{◌≡◌, refl, sym, ap, ap₂, ◌∙◌, subst, fun_ex
 use mathlib.Core.Bool.{Bool, true, false, not, ◌&&◌, ◌||◌}
 use mathlib.Core.List.{List, [], ◌∷◌}
 use Prim.Native.Nat.{ℕ, zero, suc, ◌+◌, ◌-◌, ◌*◌, ◌/◌, ◌%◌, ◌^◌, ◌≤◌, ◌<◌, max}
-use native.Mathlib.Nat.{mod-lt, pow-suc, mul-suc, zero-add, add-mul-mod_self_left}
+use native.Mathlib.Nat.{mod-lt, pow-suc, mul-suc, add-mul-mod_self_left}
 use native.Mathlib.Decide.{dec_lt}
 use native.Mathlib.Omega.{arith}
 use lib.Arith.{mod-mul}
@@ -13,7 +13,7 @@ use lib.Pow.{pow_pos, pow_mono, pow-add}
 use lib.Seq.{get_or-take}
 use borrow.Author.Tests.{lt-ltb, le-ltb, eq-eqb, not-true}
 use Rattle.model.specs.Sides.{Side, confidentiality, integrity}
-use Rattle.model.specs.Coalitions.{member, every, mark}
+use Rattle.model.specs.Coalitions.{member, every}
 use Rattle.model.specs.Terms.{Term, name, top, bottom, conj, disj, project, quorum, Terms, nil, cons, NamesBelow, PartsBelow, held, held_count}
 use Rattle.model.specs.Grants.{Grant, marks_of, heard}
 use Rattle.model.specs.Meanings.{Subset}
@@ -24,19 +24,12 @@ use Rattle.model.proofs.Monotone.{held_monotone}
 use Rattle.words.specs.AnyBytes.{taken, term_in}
 use Rattle.words.specs.Evaluation.{job_of, row_count}
 use Rattle.words.proofs.AnyBytes.{names-taken}
-use Rattle.words.proofs.Names.{rows_full, rows_few, rows_few_of}
-use Rattle.words.proofs.Searches.{clear_all}
+use Rattle.words.proofs.Names.{rows_full}
 use Rattle.ledgers.specs.Places.{q_place, label_place}
-use Rattle.counting.specs.Counted.{grant_in, hides, breaks_some, bars_counting, bars_at, joined_by, heard_at, NamesAt, NeededOf, ClearAt, FirstCleared}
-use Rattle.std.specs.Bool.{MatchBool}
-use Rattle.std.specs.List.{filter, fold, AllWithin, HoldsAt, range_with_len}
-use Rattle.std.proofs.lemmas.List.FromFn.{get_or-range_with_len, length-range_with_len}
-use Rattle.words.specs.declared.Row.{Row}
-use Rattle.words.specs.FourWords.{RowAt, empty_row}
-use Rattle.words.proofs.FourWords.{row_empty}
-use Rattle.words.proofs.Searches.{clear_not}
+use Rattle.counting.specs.Counted.{grant_in, hides, breaks_some, bars_counting, joined_by, heard_at, NamesAt, NeededOf}
+use Rattle.std.specs.List.{filter, fold}
 use Rattle.counting.proofs.Bars.{heard_bars}
-use Rattle.counting.proofs.Tests.{none_further, marked_job}
+use Rattle.counting.proofs.Tests.{none_further}
 
 -- the m + 1 low digits
 digits : (c m : ℕ) → c % 2 ^ suc m ≡ (c / 2 % 2 ^ m) * 2 + c % 2
@@ -231,75 +224,3 @@ needed_all ledger n k label =
           (ap (λ (f : ℕ → Bool). every f (2 ^ job_of n)) (fun_ext (λ c. ap not (none_further (held (term_in label)) g c)))
           ∙ sym (heard_bars (job_of n) (held (term_in label)) g (held_monotone (job_of n) (grant_in ledger k).label integrity)));
     }
-
--- ---- rows that are looked at, one after the other
-
--- a test of each row
-pub all_every : (f : ℕ → Bool) (r : Bool) (to : ℕ)
-    → MatchBool r (AllWithin (λ g. f g ≡ true) (range_with_len 0 to) 0 (length (range_with_len 0 to)))
-    ((i : ℕ) × (i < length (range_with_len 0 to)) × HoldsAt (λ g. f g ≡ false) (range_with_len 0 to) i)
-    → r ≡ every f to
-all_every f true to m = sym (every_intro f to (λ g l.
-    let there : get_or (range_with_len 0 to) g 0 ≡ g = get_or-range_with_len 0 to g 0 l ∙ zero-add g in
-    rw there at (m g 0 (omega arith) (omega (arith, length-range_with_len 0 to)))))
-all_every f false to m =
-    let below : m.0 < to = omega (arith, m.1, length-range_with_len 0 to) in
-    let there : get_or (range_with_len 0 to) m.0 0 ≡ m.0 = get_or-range_with_len 0 to m.0 0 below ∙ zero-add m.0 in
-    sym (false_of (every f to) (λ t. clash (every_elim f to t m.0 below) (rw there at (m.2 0))))
-
--- a row tells: no coalition of n names in it is one of f, or some coalition is
-module _ (f : ℕ → Bool) (n : ℕ) where
-  unfoldable pub RowClear : ℕ → Type 0
-  RowClear g = g < row_count n → (c : ℕ) → 256 * g ≤ c → c < 256 * g + 256 → mark (job_of n) f c ≡ false
-
-  unfoldable pub RowBars : ℕ → Type 0
-  RowBars g = g < row_count n → every (λ c. not (f c)) (2 ^ job_of n) ≡ false
-
-  -- the row's coalitions among those of the job
-  row_job : (g : ℕ) (x : Row) → g < row_count n → RowAt (mark n f) g x → RowAt (mark (job_of n) f) g x
-  row_job g x l r = marked_job n g f x (omega (arith, rows_few n)) r
-
-  pub told_clear : (g : ℕ) → (g < row_count n → ClearAt (mark n f) g true) → RowClear g
-  unfolding RowClear
-  told_clear g h l = let d = h l in row_empty (mark (job_of n) f) g d.row (row_job g d.row l d.is) (sym d.told)
-
-  pub told_bars : (g : ℕ) → (g < row_count n → ClearAt (mark n f) g false) → RowBars g
-  unfolding RowBars
-  told_bars g h l = let d = h l in sym (clear_not (job_of n) f g d.row (row_job g d.row l d.is) (sym d.told))
-
-  pub rows_cleared : (r : Bool) (to : ℕ) → to ≡ row_count n
-      → MatchBool r (AllWithin RowClear (range_with_len 0 to) 0 (length (range_with_len 0 to)))
-      ((i : ℕ) × (i < length (range_with_len 0 to)) × HoldsAt RowBars (range_with_len 0 to) i)
-      → r ≡ every (λ c. not (f c)) (2 ^ job_of n)
-  unfolding RowClear RowBars
-  rows_cleared true to e m = clear_all (job_of n) f (omega arith) (λ c h.
-      let g = c / 256 in
-      let below : g < to = omega (arith, rows_few_of n) in
-      let there : get_or (range_with_len 0 to) g 0 ≡ g = get_or-range_with_len 0 to g 0 below ∙ zero-add g in
-      (rw there at (m g 0 (omega arith) (omega (arith, length-range_with_len 0 to)))) (omega arith) c (omega arith) (omega arith))
-  rows_cleared false to e m =
-      let below : m.0 < to = omega (arith, m.1, length-range_with_len 0 to) in
-      let there : get_or (range_with_len 0 to) m.0 0 ≡ m.0 = get_or-range_with_len 0 to m.0 0 below ∙ zero-add m.0 in
-      sym ((rw there at (m.2 0)) (omega arith))
-
--- ---- the first row alone
-module _ (ledger : List ℕ) (n k : ℕ) (label : List ℕ) (x : Row) (d : RowAt (mark n (bars_at ledger label k)) 0 x) where
-  first_job : RowAt (mark (job_of n) (bars_at ledger label k)) 0 x
-  first_job = marked_job n 0 (bars_at ledger label k) x (omega arith) d
-
-  heard_all : heard_at ledger n label k ≡ every (λ c. not (bars_at ledger label k c)) (2 ^ job_of n)
-  heard_all = heard_bars (job_of n) (held (term_in label)) (marks_of (grant_in ledger k)) (held_monotone (job_of n) (grant_in ledger k).label integrity)
-
-  pub first_cleared : (r : Bool) → r ≡ empty_row x → FirstCleared ledger n k label r
-  first_cleared r e = record { barred = λ f. bars (sym f ∙ e); alone = λ h. by r e h }
-    where
-      bars : false ≡ empty_row x → heard_at ledger n label k ≡ false
-      bars e = heard_all ∙ sym (clear_not (job_of n) (bars_at ledger label k) 0 x first_job (sym e))
-
-      by : (r : Bool) → r ≡ empty_row x → n ≤ 8 → r ≡ heard_at ledger n label k
-      by true e h =
-          let none : job_of n - 8 ≡ 0 = omega arith in
-          let one : row_count (job_of n) ≡ 1 = rows_few_of n ∙ ap (λ (x : ℕ). 2 ^ x) none in
-          clear_all (job_of n) (bars_at ledger label k) (omega arith)
-          (λ c h. row_empty (mark (job_of n) (bars_at ledger label k)) 0 x first_job (sym e) c (omega arith) (omega (arith, one))) ∙ sym heard_all
-      by false e h = sym (bars e)

@@ -2,6 +2,7 @@
 pub mod Bars
 pub mod Few
 pub mod Tests
+pub mod Rows
 pub mod Bits
 pub mod Knowing
 pub mod Standing

@@ -1,4 +1,4 @@
-use Rattle.counting.proofs.Few.{first_cleared}
+use Rattle.counting.proofs.Rows.{first_cleared}
 use Rattle.counting.proofs.Asked.first_clear.Goals as goal
 
 pub returns : goal.returns

@@ -9,7 +9,7 @@ use Rattle.counting.specs.declared.Judged.{Judged}
 use Rattle.tables.specs.declared.Table.{Table}
 use Rattle.words.specs.Evaluation.{row_count}
 use Rattle.model.specs.Coalitions.{mark}
-use Rattle.counting.proofs.Few.{RowClear, RowBars, told_clear, told_bars, rows_cleared}
+use Rattle.counting.proofs.Rows.{RowClear, RowBars, told_clear, told_bars, rows_cleared}
 use Rattle.counting.proofs.Judged.all_clear.Goals as goal
 
 -- what the test of a row says of any tables, it says of these

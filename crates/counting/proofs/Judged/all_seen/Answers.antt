@@ -4,7 +4,7 @@ use Rattle.std.proofs.lemmas.Iterator.{cases_from_all, YieldsList-from_range}
 use Rattle.model.proofs.Search.{every_elim}
 use Rattle.words.specs.Evaluation.{row_count}
 use Rattle.counting.specs.Counted.{bars_with, voiced_at, SeenAt}
-use Rattle.counting.proofs.Few.{RowClear, RowBars, told_clear, told_bars, rows_cleared}
+use Rattle.counting.proofs.Rows.{RowClear, RowBars, told_clear, told_bars, rows_cleared}
 use Rattle.counting.proofs.Judged.all_seen.Goals as goal
 
 pub returns : goal.returns

@@ -3,7 +3,7 @@ use Rattle.std.proofs.lemmas.Iterator.{cases_from_all, YieldsList-from_range}
 use mathlib.Core.Bool.{Bool, true, false}
 use Prim.Native.Nat.{ℕ}
 use Rattle.counting.specs.Counted.{voiced_at}
-use Rattle.counting.proofs.Few.{all_every}
+use Rattle.counting.proofs.Rows.{all_every}
 use Rattle.counting.proofs.Judged.is_voiced.Goals as goal
 
 pub returns : goal.returns

@@ -1,24 +1,27 @@
 -- The gap in the algebra: held where document 02's is, the weakest that with p acts for q, FLAM's subtraction, and what spoken says of it.
-use mathlib.Core.Path.{◌≡◌, refl, sym, ap, ap₂, ◌∙◌}
+use mathlib.Core.Path.{◌≡◌, refl, sym, ap, ◌∙◌}
 use mathlib.Core.Logic.Iff
-use mathlib.Core.Logic.{inl, inr, ◌↔◌}
-use mathlib.Core.Bool.{Bool, true, false, cond, ◌&&◌, and-true, false≢true}
-use mathlib.Core.List.{[]}
-use Prim.Native.Nat.{ℕ, zero, suc, ◌^◌, ◌≤◌, ◌<◌}
+use mathlib.Core.Logic.{◌↔◌}
+use mathlib.Core.Bool.{Bool, true, ◌&&◌, and-true, false≢true}
+use mathlib.Core.List.{List, [], ◌∷◌, map}
+use Prim.Native.Nat.{ℕ, zero, suc, ◌+◌, ◌^◌, ◌≤◌, ◌<◌}
+use native.Mathlib.Decide.{ℕ_discrete}
 use native.Mathlib.Omega.{arith}
 use lib.Dec.{ltb}
 use Rattle.model.specs.Sides.{Side, confidentiality, integrity}
-use Rattle.model.specs.Coalitions.{Marks, member, implies, every, subset}
+use Rattle.model.specs.Coalitions.{Marks, member, those, subset}
+use Rattle.model.specs.Comparing.{all_of}
 use Rattle.model.specs.Terms.{Term, held}
 use Rattle.model.specs.Grants.{gap, spoken, sound}
 use Rattle.model.specs.Voice.{voice, spoken_by_voice}
 use Rattle.algebra.specs.Principals.{Principal, name, top, bottom, conj, disj, project, held_by, Named}
-use Rattle.algebra.specs.Meaning.{meaning}
+use Rattle.algebra.specs.Meaning.{either_of, meaning}
 use Rattle.algebra.specs.Algebra.{ActsFor, bot_r, self, proj, conj_l₁, conj_l₂, conj_r, disj_l, disj_r₁, disj_r₂, then, on_side, voice_of}
 use Rattle.algebra.specs.Gap.{members, either_where, gap_of, as_both, GapIsHeld, GapIsWeakest, GapIsSubtraction, NoGap, SpokenIsActsForGap, SpokenSideBySide, SpokenIsActingTogether, VoiceActsForGap}
-use Rattle.model.proofs.Truth.{and_intro, and_left, and_right, or_elim, or_left, or_right, bool_ext, cond_case, below_suc}
+use Rattle.model.proofs.Truth.{and_intro, and_left, and_right, or_elim, or_left, or_right, bool_ext, cond_case}
 use Rattle.model.proofs.Monotone.{Monotone, held_monotone, subset_says}
 use Rattle.model.proofs.Gap.{gap_says, spoken_singly}
+use Rattle.model.proofs.Telling.{all_members, names-all_members}
 use Rattle.algebra.proofs.Meanings.{meaning_held, meaning_marks, meaning_named}
 use Rattle.algebra.proofs.Principals.{cut}
 use Rattle.algebra.proofs.Sides.{side_names, side_held, voice-held, voice_acts}
@@ -35,37 +38,33 @@ by_monotone : (n : ℕ) (t : Principal) → Named n t → (s : Side) → Monoton
 by_monotone n t l s = rw (written_marks n t l) at (held_monotone n (written n t) s)
 
 members_held : (n b : ℕ) (s : Side) (c : ℕ) → held_by (members n b) s c ≡ subset n b c
-unfolding members held_by every
-members_held zero b s c = refl
-members_held (suc n) b s c = ap₂ ◌&&◌ (members_held n b s c) (one (member n b))
-  where
-    one : (m : Bool) → held_by (cond m (name n) bottom) s c ≡ implies m (member n c)
-    one true = refl
-    one false = refl
+members_held n b s c = meaning_held (all_of (those (λ i. member i b) 0 n)) s c ∙ all_members n b s c
 
 -- either of the coalitions of a monotone f is held where f holds
 module _ (n : ℕ) (f : ℕ → Bool) (more : Monotone n f) (s : Side) (c : ℕ) where
-  either_elim : (k : ℕ) → k ≤ 2 ^ n → held_by (either_where n f k) s c ≡ true → f c ≡ true
-  unfolding either_where held_by
-  either_elim zero l h = absurd (false≢true h)
-  either_elim (suc k) l h =
-      or_elim (held_by (either_where n f k) s c) (held_by (cond (f k) (members n k) top) s c)
-      (λ e. either_elim k (omega arith) e)
-      (λ e. cond_case (λ t. held_by t s c ≡ true → f c ≡ true) (f k) (members n k) top
-      (λ m h. more k c l ((subset_says n k c).0 (sym (members_held n k s c) ∙ h)) m)
-      (λ m h. absurd (false≢true h)) e)
-      h
+  abbrev held_in : List ℕ → Bool
+  held_in l = held_by (either_of (map (members n) l)) s c
 
-  either_intro : (k : ℕ) → c < k → f c ≡ true → held_by (either_where n f k) s c ≡ true
-  unfolding either_where held_by
-  either_intro zero l h = absurd (omega arith)
-  either_intro (suc k) l h = elim (below_suc l) [
-    | inl m ↦ or_left (held_by (cond (f k) (members n k) top) s c) (either_intro k m h)
-    | inr e ↦ or_right (held_by (either_where n f k) s c) (rw (← e, h) (members_held n c s c ∙ (subset_says n c c).1 (λ i l m. m)))
+  either_elim : (a k : ℕ) → a + k ≤ 2 ^ n → held_in (those f a k) ≡ true → f c ≡ true
+  unfolding those either_of held_by
+  either_elim a zero l = λ h. absurd (false≢true h)
+  either_elim a (suc k) l =
+      let rest : held_in (those f (suc a) k) ≡ true → f c ≡ true = either_elim (suc a) k (omega arith) in
+      cond_case (λ l. held_in l ≡ true → f c ≡ true) (f a) (a ∷ those f (suc a) k) (those f (suc a) k)
+      (λ m h. or_elim (held_by (members n a) s c) (held_in (those f (suc a) k)) (λ e. more a c (omega arith) ((subset_says n a c).0 (sym (members_held n a s c) ∙ e)) m) rest h)
+      (λ m. rest)
+
+  either_intro : (a k : ℕ) → a ≤ c → c < a + k → f c ≡ true → held_in (those f a k) ≡ true
+  unfolding those either_of held_by
+  either_intro a zero l m h = absurd (omega arith)
+  either_intro a (suc k) l m h = elim (ℕ_discrete a c) [
+    | yes e ↦ rw (e, h) (or_left (held_in (those f (suc c) k)) (members_held n c s c ∙ (subset_says n c c).1 (λ i l m. m)))
+    | no ne ↦ (let rest = either_intro (suc a) k (omega arith) (omega arith) h in
+        cond_case (λ l. held_in l ≡ true) (f a) (a ∷ those f (suc a) k) (those f (suc a) k) (λ _. or_right (held_by (members n a) s c) rest) (λ _. rest))
   ]
 
-  either_held : c < 2 ^ n → held_by (either_where n f (2 ^ n)) s c ≡ f c
-  either_held l = bool_ext (held_by (either_where n f (2 ^ n)) s c) (f c) (either_elim (2 ^ n) (omega arith)) (either_intro (2 ^ n) l)
+  either_held : c < 2 ^ n → held_by (either_where n f) s c ≡ f c
+  either_held l = bool_ext (held_by (either_where n f) s c) (f c) (either_elim 0 (2 ^ n) (omega arith)) (either_intro 0 (2 ^ n) (omega arith) (omega arith))
 
 gap_monotone : (n : ℕ) (p q : Marks) (s : Side) → Monotone n (gap n p q s)
 gap_monotone n p q s b c l sub h = (gap_says n p q s c).1 (λ e m over. (gap_says n p q s b).0 h e m (λ i k j. over i k (sub i k j)))
@@ -74,27 +73,20 @@ pub gap-held : GapIsHeld
 unfolding gap_of held_by
 gap-held n p q confidentiality c l =
     let f = gap n (held_by p) (held_by q) confidentiality in
-    and-true (held_by (either_where n f (2 ^ n)) confidentiality c) ∙ either_held n f (gap_monotone n (held_by p) (held_by q) confidentiality) confidentiality c l
+    and-true (held_by (either_where n f) confidentiality c) ∙ either_held n f (gap_monotone n (held_by p) (held_by q) confidentiality) confidentiality c l
 gap-held n p q integrity c l =
     either_held n (gap n (held_by p) (held_by q) integrity) (gap_monotone n (held_by p) (held_by q) integrity) integrity c l
 
 -- ---- its names
 
-members_named : (n : ℕ) → n ≤ 12 → (c k : ℕ) → k ≤ n → Named n (members k c)
-unfolding members Named
-members_named n small c zero l = tt
-members_named n small c (suc k) l =
-    (members_named n small c k (omega arith), cond_case (Named n) (member k c) (name k) bottom (λ e. (omega arith, omega arith)) (λ e. tt))
-
-either_named : (n : ℕ) → n ≤ 12 → (f : ℕ → Bool) (k : ℕ) → Named n (either_where n f k)
-unfolding either_where Named
-either_named n small f zero = tt
-either_named n small f (suc k) =
-    (either_named n small f k, cond_case (Named n) (f k) (members n k) top (λ e. members_named n small k n (omega arith)) (λ e. tt))
+either_named : (n : ℕ) → n ≤ 12 → (l : List ℕ) → Named n (either_of (map (members n) l))
+unfolding either_of Named
+either_named n small [] = tt
+either_named n small (b ∷ l) = (meaning_named n _ (names-all_members n small b), either_named n small l)
 
 gap_named : (n : ℕ) → n ≤ 12 → (p q : Principal) → Named n (gap_of n p q)
 unfolding gap_of Named
-gap_named n small p q = (either_named n small _ (2 ^ n), either_named n small _ (2 ^ n))
+gap_named n small p q = (either_named n small _, either_named n small _)
 
 -- ---- the weakest, and so the rest of the minimal factorization
 

@@ -2,33 +2,32 @@
 -- The thesis takes them in a context of delegations and a pc. Document 02's gap is static, without grants: here the context is `[]`. Its coalitions are of the
 -- job's names, and so are p and q, but what is least or weakest is so among all principals. The thesis's Lemma 3 subtracts voices, a side at a time: that
 -- comes to the voice of the gap. Assumes nothing: these are definitions.
-use Rattle.std.specs.Prelude.{ℕ, zero, suc, ◌^◌, ◌≤◌, ◌≡◌, ◌↔◌, Bool, true, cond}
+use Rattle.std.specs.Prelude.{ℕ, ◌^◌, ◌≤◌, ◌≡◌, ◌↔◌, Bool, true, map}
 use mathlib.Core.List.{[]}
 use Rattle.model.specs.Sides.{Side, confidentiality, integrity}
-use Rattle.model.specs.Coalitions.{member}
+use Rattle.model.specs.Coalitions.{member, those}
 use Rattle.model.specs.Terms.{Term, NamesBelow, held}
 use Rattle.model.specs.Grants.{gap, spoken}
 use Rattle.model.specs.Meanings.{Agree}
-use Rattle.algebra.specs.Principals.{Principal, name, top, bottom, conj, disj, project, held_by, Named}
-use Rattle.algebra.specs.Meaning.{meaning}
+use Rattle.model.specs.Comparing.{all_of}
+use Rattle.algebra.specs.Principals.{Principal, bottom, conj, disj, project, held_by, Named}
+use Rattle.algebra.specs.Meaning.{either_of, meaning}
 use Rattle.algebra.specs.Algebra.{ActsFor, Same, on_side, voice_of}
 
 -- of n names, the members of coalition c, together
-unfoldable pub members : ℕ → ℕ → Principal
-members zero c = bottom
-members (suc n) c = conj (members n c) (cond (member n c) (name n) bottom)
+abbrev pub members : ℕ → ℕ → Principal
+members n c = meaning (all_of (those (λ i. member i c) 0 n))
 
--- either of the coalitions below k at which f holds
-unfoldable pub either_where : ℕ → (ℕ → Bool) → ℕ → Principal
-either_where n f zero = top
-either_where n f (suc k) = disj (either_where n f k) (cond (f k) (members n k) top)
+-- either of the coalitions at which f holds
+abbrev pub either_where : ℕ → (ℕ → Bool) → Principal
+either_where n f = either_of (map (members n) (those f 0 (2 ^ n)))
 
 -- The gap of p and q: on each side, either of the coalitions that hold it.
 unfoldable pub gap_of : ℕ → Principal → Principal → Principal
 gap_of n p q =
     conj
-    (project confidentiality (either_where n (gap n (held_by p) (held_by q) confidentiality) (2 ^ n)))
-    (project integrity (either_where n (gap n (held_by p) (held_by q) integrity) (2 ^ n)))
+    (project confidentiality (either_where n (gap n (held_by p) (held_by q) confidentiality)))
+    (project integrity (either_where n (gap n (held_by p) (held_by q) integrity)))
 
 -- d's integrity, as confidentiality and as integrity
 unfoldable pub as_both : Principal → Principal

@@ -1,5 +1,5 @@
 -- Rows that are looked at one after the other: what each tells of its coalitions, and all of them of a grant. Assumes nothing.
-use mathlib.Core.Path.{◌≡◌, refl, sym, ap, ◌∙◌}
+use mathlib.Core.Path.{◌≡◌, sym, ap, ◌∙◌}
 use mathlib.Core.Bool.{Bool, true, false, true≢false, not}
 use mathlib.Core.List.{List}
 use Prim.Native.Nat.{ℕ, ◌+◌, ◌-◌, ◌*◌, ◌/◌, ◌^◌, ◌≤◌, ◌<◌}
@@ -19,7 +19,7 @@ use Rattle.model.proofs.Search.{every_elim, every_intro}
 use Rattle.model.proofs.Monotone.{held_monotone}
 use Rattle.words.specs.AnyBytes.{term_in}
 use Rattle.words.specs.declared.Row.{Row}
-use Rattle.words.specs.FourWords.{RowAt, empty_row}
+use Rattle.words.specs.FourWords.{RowAt}
 use Rattle.words.specs.Evaluation.{job_of, row_count}
 use Rattle.words.proofs.FourWords.{row_empty}
 use Rattle.words.proofs.Names.{rows_few, rows_few_of}
@@ -90,24 +90,19 @@ module _ (f : ℕ → Bool) (n : ℕ) where
   rows_cleared false to e m = let s = some_told to RowBars m in sym (s.told (omega (arith, s.below)))
 
 -- ---- the first row alone
-module _ (ledger : List ℕ) (n k : ℕ) (label : List ℕ) (x : Row) (d : RowAt (mark n (bars_at ledger label k)) 0 x) where
+module _ (ledger : List ℕ) (n k : ℕ) (label : List ℕ) where
   heard_all : heard_at ledger n label k ≡ every (λ c. not (bars_at ledger label k c)) (2 ^ job_of n)
   heard_all = heard_bars (job_of n) (held (term_in label)) (marks_of (grant_in ledger k)) (held_monotone (job_of n) (grant_in ledger k).label integrity)
 
-  told : (r : Bool) → r ≡ empty_row x → ClearAt (mark n (bars_at ledger label k)) 0 r
-  told r e = record { row = x; is = d; told = e }
-
-  pub first_cleared : (r : Bool) → r ≡ empty_row x → FirstCleared ledger n k label r
+  pub first_cleared : (r : Bool) → ClearAt (mark n (bars_at ledger label k)) 0 r → FirstCleared ledger n k label r
   unfolding RowBars
-  first_cleared r e = record { barred = bars r e; alone = by r e }
-    where
-      bars : (r : Bool) → r ≡ empty_row x → r ≡ false → heard_at ledger n label k ≡ false
-      bars true e f = absurd (true≢false f)
-      bars false e f = heard_all ∙ told_bars (bars_at ledger label k) n 0 (λ _. told false e) (pow_pos (job_of n - 8))
-
-      by : (r : Bool) → r ≡ empty_row x → n ≤ 8 → r ≡ heard_at ledger n label k
-      by true e h =
-          let none : job_of n - 8 ≡ 0 = omega arith in
-          let one : row_count n ≡ 1 = ap (λ (x : ℕ). 2 ^ x) none in
-          each_clear (bars_at ledger label k) n (λ g l. let first : g ≡ 0 = omega arith in rw first (told_clear (bars_at ledger label k) n 0 (λ _. told true e))) ∙ sym heard_all
-      by false e h = sym (bars false e refl)
+  first_cleared false told =
+      let barred : heard_at ledger n label k ≡ false = heard_all ∙ told_bars (bars_at ledger label k) n 0 (λ _. told) (pow_pos (job_of n - 8)) in
+      record { barred = λ _. barred; alone = λ _. sym barred }
+  first_cleared true told = record {
+    barred = λ f. absurd (true≢false f);
+    alone = λ h.
+        let none : job_of n - 8 ≡ 0 = omega arith in
+        let one : row_count n ≡ 1 = ap (λ (x : ℕ). 2 ^ x) none in
+        each_clear (bars_at ledger label k) n (λ g l. let first : g ≡ 0 = omega arith in rw first (told_clear (bars_at ledger label k) n 0 (λ _. told))) ∙ sym heard_all;
+  }

@@ -69,11 +69,8 @@ pub none_further : (L : Marks) (d : GrantMarks) (c : ℕ) → bars_counting L (j
 unfolding breaks_some bars_counting
 none_further L d c = rw add-zero
 
-pub here_row : (L : Marks) (d : GrantMarks) (g : ℕ) (r : Row) → RowAt (bars_counting L (joined_by (256 * 0) d)) g r → RowAt (bars_counting L d) g r
-here_row L d g r = row_cong g _ _ r (λ c _ _. none_further L d c)
-
 -- a row some rows further on is that of what is asked of so many coalitions more
-pub row_further : (f : ℕ → Bool) (g more : ℕ) (x : Row) → RowAt f (g + more) x → RowAt (λ c. f (c + 256 * more)) g x
+row_further : (f : ℕ → Bool) (g more : ℕ) (x : Row) → RowAt f (g + more) x → RowAt (λ c. f (c + 256 * more)) g x
 row_further f g more x r = record {
   word = λ j l. r.word j l ∙ packed_shift f (λ c. f (c + 256 * more)) (64 * (4 * (g + more) + j)) (64 * (4 * g + j)) 64
       (λ k _. let e : 64 * (4 * (g + more) + j) + k ≡ 64 * (4 * g + j) + k + 256 * more = omega arith in ap f e);

@@ -56,11 +56,11 @@ fn barred(under: Rows, own: Rows, q: Rows, p: Rows) -> Row
     words::either(hidden(under, own), words::both(own.change, lacking(p, q)))
 }
 
-// Of row g there is no coalition of n names.
+// Of row g there is no coalition of n names. The mask is needed only where there are any.
 fn none_of(n: u64, g: u64, row: Row) -> bool
     ensures { (f : ℕ → Bool) → RowAt f g row → ClearAt (mark n f) g result }
 {
-    words::empty(words::both(words::low_row(n, g), row))
+    words::empty(row) || words::empty(words::both(words::low_row(n, g), row))
 }
 
 // All rows of a label, of a grant's label and of its q.
@@ -102,8 +102,12 @@ impl Judged {
         ensures { AskedAt self.now p.now n more g result }
     {
         let own = self.own.rows(g);
-        let asked = p.rows(g.wrapping_add(more));
-        none_of(n, g, barred(self.under.rows(g), own, self.q.rows(g), asked))
+        let further = p.rows(g.wrapping_add(more));
+        none_of(
+            n,
+            g,
+            barred(self.under.rows(g), own, self.q.rows(g), further),
+        )
     }
 
     // No coalition of n names hides the grant, of which none is unvoiced.
@@ -131,32 +135,21 @@ pub struct Asked<'a> {
 }
 
 impl Asked<'_> {
-    // Those of row g that bar grant k from counting under the label. Where none changes the grant's label there is no need of q, and where none is unvoiced none of p.
-    fn barring(&self, k: usize, g: u64) -> Row
-        ensures { RowAt (bars_at self.now.ledger.now self.now.label.now k) g result }
+    // Those of the first row that bar grant k from counting under the label. Where none changes the grant's label there is no need of q, and where none is unvoiced none of p.
+    fn barring(&self, k: usize) -> Row
+        ensures { RowAt (bars_at self.now.ledger.now self.now.label.now k) 0 result }
     {
-        let under = words::hold(self.label, 0, g).rows;
-        let own = words::hold(self.ledger, ledgers::term_place(k, ledgers::LABEL), g).rows;
+        let under = words::hold(self.label, 0, 0).rows;
+        let own = words::hold(self.ledger, ledgers::term_place(k, ledgers::LABEL), 0).rows;
         if words::empty(own.change) {
             return words::without(under.see, own.see);
         }
-        let q = words::hold(self.ledger, ledgers::term_place(k, ledgers::Q), g).rows;
+        let q = words::hold(self.ledger, ledgers::term_place(k, ledgers::Q), 0).rows;
         if words::empty(unvoiced(own, q)) {
             return hidden(under, own);
         }
-        let p = words::hold(self.ledger, ledgers::term_place(k, ledgers::P), g).rows;
+        let p = words::hold(self.ledger, ledgers::term_place(k, ledgers::P), 0).rows;
         barred(under, own, q, p)
-    }
-
-    // And those that are coalitions of n names. The mask is needed only where there are any.
-    fn barring_of(&self, n: u64, k: usize, g: u64) -> Row
-        ensures { RowAt (mark n (bars_at self.now.ledger.now self.now.label.now k)) g result }
-    {
-        let bars = self.barring(k, g);
-        if words::empty(bars) {
-            return bars;
-        }
-        words::both(words::low_row(n, g), bars)
     }
 
     // How many of the names there is need to ask when grant k is judged: those up to the highest of the label, of the grant's label and of its q, and at least
@@ -174,7 +167,7 @@ impl Asked<'_> {
     fn first_clear(&self, k: usize) -> bool
         ensures { FirstCleared self.now.ledger.now self.now.sizes.names k self.now.label.now result }
     {
-        words::empty(self.barring_of(self.sizes.names, k, 0))
+        none_of(self.sizes.names, 0, self.barring(k))
     }
 
     // No coalition of n of the names bars grant k, where p is asked with all the others among the members: in the last rows. Where none is unvoiced, p is not asked.

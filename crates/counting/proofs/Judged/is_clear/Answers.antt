@@ -17,4 +17,4 @@ returns c ledger label names k j held_p l far =
     c.none_of.ensures _
     (c.barred.ensures (held (term_in label)) (joined_by (256 * a.more) (marks_of (grant_in ledger k))) a.g
     (rw (c.rows.ensures, small) (j.under a.g l)) (rw (c.rows-own.ensures, small) (j.own a.g l)) (rw (c.rows-2.ensures, small) (j.q a.g l))
-    (rows_further (held (grant_in ledger k).p) a.g a.more _ (rw (c.rows-asked.ensures, at) (held_p (a.g + a.more) far))))
+    (rows_further (held (grant_in ledger k).p) a.g a.more _ (rw (c.rows-further.ensures, at) (held_p (a.g + a.more) far))))

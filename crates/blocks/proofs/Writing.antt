@@ -3,14 +3,35 @@ use mathlib.Core.Path.{◌≡◌, refl, sym, ap, ap₂, ◌∙◌}
 use mathlib.Core.List.{List, [], ◌∷◌, ◌++◌, append_assoc, append-nil}
 use Prim.Native.Nat.{ℕ, zero, suc, ◌+◌, ◌-◌, ◌*◌, ◌/◌, ◌%◌, ◌≤◌, ◌<◌}
 use native.Mathlib.Nat.{mod-eq_of_lt}
+use native.Mathlib.Numerals.{add-one}
 use native.Mathlib.Omega.{arith}
 use lib.ListN.{length, take, drop, get_or, set, replicate, length-append, length-take, length-drop, length-set, take-append-drop}
-use lib.Seq.{paste, length-paste, take-paste, drop-paste, take_at, drop_at, take_all, take-set-lt, drop-set-lt, set-append_left, split_at}
+use lib.Seq.{paste, paste-suc, length-paste, take-paste, drop-paste, take_at, drop_at, take_all, take-set-lt, drop-set-lt, set-append_left, split_at, get_or-drop}
 use Rattle.model.specs.Bytes.{big_endian, joined}
 use Rattle.model.specs.Ledgers.{weighted, check_of, with_check, ledger_of}
 use Rattle.model.proofs.Without.{Blocks, none, some, joined_length}
 use Rattle.model.specs.Live.{dropped_at}
 use Rattle.blocks.specs.Front.{counted, Sized, Front, Kept, Rewritten}
+
+-- ---- bytes moved one by one
+
+-- a turn of a loop that writes s into d from `at` on, byte k being x
+paste_more : (d₀ d : List ℕ) (at k x : ℕ) (s : List ℕ) → at + k < length d₀ → k < length s → get_or s k 0 ≡ x → d ≡ paste d₀ at s k → set d (at + k) x ≡ paste d₀ at s (k + 1)
+paste_more d₀ d at k x s h l e i = rw (i, ← e, add-one) (paste-suc d₀ at s k 0 h l)
+
+-- what stands past the bytes written
+paste_past : (d₀ d : List ℕ) (at k m : ℕ) (s : List ℕ) → at ≤ length d₀ → k ≤ length s → d ≡ paste d₀ at s k → get_or d (at + k + m) 0 ≡ get_or d₀ (at + k + m) 0
+paste_past d₀ d at k m s h l i =
+    ap (λ (x : List ℕ). get_or x (at + k + m) 0) i ∙ sym (get_or-drop (at + k) (paste d₀ at s k) m 0)
+    ∙ ap (λ (x : List ℕ). get_or x m 0) (drop-paste d₀ at s k h l) ∙ get_or-drop (at + k) d₀ m 0
+
+-- a turn of a loop that moves a list down by 512
+pub moved_more : (d₀ d : List ℕ) (at k : ℕ) → at + 512 + k < length d₀ → d ≡ paste d₀ at (drop (at + 512) d₀) k → set d (at + k) (get_or d (at + 512 + k) 0) ≡ paste d₀ at (drop (at + 512) d₀) (k + 1)
+moved_more d₀ d at k h i =
+    let s = drop (at + 512) d₀ in
+    let long : k < length s = omega (arith, length-drop (at + 512) d₀) in
+    let e : at + k + 512 ≡ at + 512 + k = omega arith in
+    paste_more d₀ d at k _ s (omega arith) long (get_or-drop (at + 512) d₀ k 0 ∙ sym (rw e at (paste_past d₀ d at k 512 s (omega arith) (omega arith) i))) i
 
 -- ---- block 0
 

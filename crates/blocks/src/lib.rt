@@ -16,11 +16,14 @@ fn copy_in(ledger: &mut [u8; 33280], at: usize, block: &[u8])
 }
 
 // The `count` bytes that stand 512 after `at` move down by 512.
+// Kept: byte by byte, which the compiler makes one move of; `copy_within` stays a loop, and takes twice the time (docs/DESIGN-PASS.md).
 fn move_down(ledger: &mut [u8; 33280], at: usize, count: usize)
     requires { at + 512 + count ≤ 33280 }
     ensures { length ledger.old ≡ 33280 → ledger.new ≡ paste ledger.old at (drop (at + 512) ledger.old) count }
 {
-    ledger.copy_within(at + 512..at + 512 + count, at);
+    for k in 0..count {
+        ledger[at + k] = ledger[at + 512 + k];
+    }
 }
 
 // Block 0 gets another count of grants, and the check that goes with it.

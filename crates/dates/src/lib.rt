@@ -33,11 +33,12 @@ pub fn real_date(date: u32) -> bool
     ensures { result ≡ real_date date }
 {
     let year = date / 10000;
+    if !(1900..=2199).contains(&year) {
+        return false;
+    }
     let month = date / 100 % 100;
     let day = date % 100;
-    (1900..=2199).contains(&year)
-        && (1..=12).contains(&month)
-        && (1..=days_in(year, month)).contains(&day)
+    (1..=12).contains(&month) && (1..=days_in(year, month)).contains(&day)
 }
 
 // The next day of the month, else the first of the next month, else the first of the next year.
@@ -46,6 +47,10 @@ fn next_day(date: u32) -> u32
     requires { date < 21991231 }
     ensures { result ≡ next_day date }
 {
+    // Every month has 28 days.
+    if date % 100 < 28 {
+        return date + 1;
+    }
     let year = date / 10000;
     let month = date / 100 % 100;
     if date % 100 < days_in(year, month) {

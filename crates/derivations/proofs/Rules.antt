@@ -14,7 +14,7 @@ use Rattle.derivations.specs.Steps.{rule_is, fields_form, filler_form}
 use Rattle.derivations.specs.declared.Rule.{Rule as CodeRule}
 use Rattle.derivations.specs.declared.Rule.TheVariants.{Static, Granted, Transitive, Conjunction, Disjunction, Projection}
 
-step_forms : (r : Rule) (step : List ℕ) → step_form r step ≡ (is_rule r && (fields_form r step && filler_form step))
+pub step_forms : (r : Rule) (step : List ℕ) → step_form r step ≡ (is_rule r && (fields_form r step && filler_form step))
 unfolding step_form fields_form filler_form past_term
 step_forms r step = simp and_assoc
 

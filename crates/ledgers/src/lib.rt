@@ -1,7 +1,7 @@
 // The ledger: the reader with its refusals, and the parts where the grants' terms stand.
 #![tactic(auto)]
 
-ghost use Rattle.std.specs.Prelude.{◌≡◌, ℕ, ◌+◌, ◌/◌, ◌≤◌, length};
+ghost use Rattle.std.specs.Prelude.{◌≡◌, ℕ, ◌+◌, ◌/◌, ◌≤◌, min, length};
 ghost use Rattle.model.specs.Bytes.{byte, field, pieces};
 ghost use Rattle.model.specs.Readings.{refused_as};
 ghost use Rattle.model.specs.Terms.{read_term};
@@ -191,10 +191,9 @@ pub fn block_place(k: usize) -> usize
     512 * (k.min(64) + 1)
 }
 
-// Where the field of a term of grant k begins in a ledger.
+// Where the field of a term of grant k begins in a ledger; one past the block is taken to begin at its end.
 pub fn term_place(k: usize, term: TermField) -> usize
-    requires { term.at ≤ 512 }
-    ensures { result ≡ block_place k + term.at }
+    ensures { result ≡ block_place k + min term.at 512 }
 {
-    block_place(k) + term.at
+    block_place(k) + term.at.min(512)
 }

@@ -40,8 +40,7 @@ pub trait Sieve {
 
     // Those of row g that are sound, of some of its coalitions.
     fn sift(&mut self, g: u64, of: Rows) -> Rows
-        requires { g < 16 }
-        ensures { (S f : Marks) → keeps self.old S → RowsAt f g of → RowsAt (λ s c. f s c && S s c) g result × keeps self.new S };
+        ensures { (S f : Marks) → g < 16 → keeps self.old S → RowsAt f g of → RowsAt (λ s c. f s c && S s c) g result × keeps self.new S };
 }
 
 // Row g of the coalitions of n names that refute, were they sound: those that hold p and not q, and for flows-to, on the see side, q and not p. Given are the

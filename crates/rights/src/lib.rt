@@ -55,11 +55,10 @@ pub fn answer_number(answer: Result<Option<Refuter>, Refusal>) -> u32
 // How many bytes were written, likewise.
 #[tactic(auto, unfolding(model::specs::Answers::number))]
 pub fn written_number(written: Result<usize, Refusal>) -> u32
-    requires { IfOk written (λ length. length < 2 ^ 32) }
-    ensures { result ≡ number (written_of written) }
+    ensures { IfOk written (λ length. length < 2 ^ 32) → result ≡ number (written_of written) }
 {
     match written {
-        Ok(length) => length as u32,
+        Ok(length) => u32::try_from(length).unwrap_or(u32::MAX),
         Err(why) => refused_number(why),
     }
 }

@@ -202,13 +202,13 @@ module _ (s : Side) (c : ℕ) where
     tested_is b e = ap₂ (λ (b : Bool) (n : ℕ). record { is_sound = b; tested = n }) (sym e) (to.count ∙ only-count (chosen_in ledger grants bits))
 
     -- none is left: it is broken
-    only_broken : empty_rows kept.rows ≡ true → record { is_sound = false; tested = kept.tested } ≡ test_in ledger grants bits s c
+    pub only_broken : empty_rows kept.rows ≡ true → record { is_sound = false; tested = kept.tested } ≡ test_in ledger grants bits s c
     unfolding test_in
     only_broken none = tested_is false (test_says ledger bits s c grants ∙ sym (ap (λ (b : Bool). b && sound_in ledger grants bits s c) (only_self s c))
         ∙ rows_empty (c / 256) _ kept.rows to.rows none s c low_in high_in)
 
     -- one is left: it is sound
-    only-sound : empty_rows kept.rows ≡ false → record { is_sound = true; tested = kept.tested } ≡ test_in ledger grants bits s c
+    pub only-sound : empty_rows kept.rows ≡ false → record { is_sound = true; tested = kept.tested } ≡ test_in ledger grants bits s c
     unfolding test_in
     only-sound some =
         let m = rows_some (c / 256) (λ r d. only s c r d && sound_in ledger grants bits r d) kept.rows to.rows some in

@@ -77,7 +77,7 @@ impl Sieve for Zeros<'_> {
         if words::none(of) {
             return of;
         }
-        let at = g as usize;
+        let at = (g % 16) as usize;
         Rows {
             see: planes::unbroken(self.numbers, at, of.see),
             change: planes::unbroken(self.numbers, 16 + at, of.change),

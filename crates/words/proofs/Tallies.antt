@@ -62,7 +62,7 @@ none_at (suc m) (suc j) = none_at m j
 abbrev pub first_table : List Rows
 first_table = set (replicate 13 (same_rows 0)) 0 (same_rows 0xFFFF_FFFF_FFFF_FFFF)
 
-tallied_start : (k g : ℕ) (s : Side) → Tallied k g s (λ c. 0) first_table
+pub tallied_start : (k g : ℕ) (s : Side) → Tallied k g s (λ c. 0) first_table
 tallied_start k g s zero l = rw (same_on 0xFFFF_FFFF_FFFF_FFFF s) (row_cong g (λ c. true) (λ c. leb 0 0) _ (λ c a b. refl) (row_all g))
 tallied_start k g s (suc j) l =
     rw (get_or-set_other (replicate 13 (same_rows 0)) 0 (suc j) (same_rows 0xFFFF_FFFF_FFFF_FFFF) (same_rows 0) (omega arith), none_at 13 (suc j), same_on 0 s)
@@ -101,14 +101,14 @@ pub record Tally (ts left : Terms) (s : Side) (k g : ℕ) (table : List Rows) : 
   pub tallied : Tallied k g s so_far table
 
 module _ (ts : Terms) (s : Side) (k g : ℕ) where
-  tally_start : Tally ts ts s k g first_table
+  pub tally_start : Tally ts ts s k g first_table
   tally_start = record {
     so_far = λ c. 0;
     total = λ c. omega arith;
     tallied = tallied_start k g s;
   }
 
-  tally_part : (t : Term) (us : Terms) (x : Rows) (before after : List Rows) → k < length before → Tally ts (cons t us) s k g before → RowAt (held t s) g (row_on x s) → Weighed k x before after → Tally ts us s k g after
+  pub tally_part : (t : Term) (us : Terms) (x : Rows) (before after : List Rows) → k < length before → Tally ts (cons t us) s k g before → RowAt (held t s) g (row_on x s) → Weighed k x before after → Tally ts us s k g after
   tally_part t us x before after room d e h = record {
     so_far = λ c. cond (held t s c) (suc (d.so_far c)) (d.so_far c);
     total = λ c. d.total c ∙ ap (λ (u : ℕ). d.so_far c + u) (count_part t us s c) ∙ moved (held t s c) (d.so_far c) (held_count us s c);

@@ -300,22 +300,27 @@ pub fn hold(codes: &[u8], at: usize, g: u64) -> Held
     }
 }
 
-// The words of row g become those of a row.
+// The words of row g become those of a row, where they are all there.
 pub fn put_row(words: &mut [u64], g: usize, row: Row)
-    requires { 4 * g + 4 ≤ length words.old }
-    ensures { words.new ≡ row_set words.old g row }
+    ensures there { 4 * g + 4 ≤ length words.old → words.new ≡ row_set words.old g row }
+    ensures missing { length words.old < 4 * g + 4 → words.new ≡ words.old }
 {
-    words[4 * g] = row.a;
-    words[4 * g + 1] = row.b;
-    words[4 * g + 2] = row.c;
-    words[4 * g + 3] = row.d;
+    if g < words.len() / 4 {
+        words[4 * g] = row.a;
+        words[4 * g + 1] = row.b;
+        words[4 * g + 2] = row.c;
+        words[4 * g + 3] = row.d;
+    }
 }
 
-// Row g of a list of words.
+// Row g of a list of words: nothing, where they are not all there.
 pub fn row_at(words: &[u64], g: usize) -> Row
-    requires { 4 * g + 4 ≤ length words.now }
-    ensures { result ≡ row_in words.now g }
+    ensures there { 4 * g + 4 ≤ length words.now → result ≡ row_in words.now g }
+    ensures missing { length words.now < 4 * g + 4 → result ≡ same_row 0 }
 {
+    if words.len() / 4 <= g {
+        return same(NONE);
+    }
     Row {
         a: words[4 * g],
         b: words[4 * g + 1],

@@ -13,14 +13,15 @@ pub loop-j-preserved : goal.loop-j-preserved
 loop-j-preserved t c =
     let l = c.loop-j in
     let v = l.invariant in
-    let small : l.j < 7 = omega arith in (
+    let small : l.j < 7 = omega arith in
+    let put = c.put_row.ensures.there (omega (arith, v.1.same)) in (
       v.0,
-      rw c.put_row.ensures (else_more _ _ l.planes l.j _ small v.1),
+      rw put (else_more _ _ l.planes l.j _ small v.1),
       λ g f h m d e r.
           let w = v.2 g f h m d e r in
-          let x : DigitOf f l.j g c.row_at-before.result = rw c.row_at-before.ensures (w.1.left l.j (omega arith) small) in (
+          let x : DigitOf f l.j g c.row_at-before.result = rw (c.row_at-before.ensures.there (omega (arith, v.1.same))) (w.1.left l.j (omega arith) small) in (
             rw c.both-carry.ensures (d.next l.j _ _ _ x w.0 (rw c.differ-after.ensures at c.tells.ensures)),
-            rw (c.put_row.ensures, c.differ-after.ensures) (between_more _ g f h l.planes l.j _ small v.0 (omega (arith, v.1.same, e.sized)) (new_digit g f h m l.j _ _ _ d x w.0) w.1),
+            rw (put, c.differ-after.ensures) (between_more _ g f h l.planes l.j _ small v.0 (omega (arith, v.1.same, e.sized)) (new_digit g f h m l.j _ _ _ d x w.0) w.1),
           ),
     )
 

@@ -12,7 +12,7 @@ loop-j-preserved c =
     let l = c.loop-j in
     let v = l.invariant in
     let small : l.j < 7 = omega arith in
-    (v.0, λ g f m h e. rw c.without-left.ensures (bare_more f m g l.j _ _ (v.1 g f m h e) (rw c.row_at.ensures (h.digits.digit l.j small))))
+    (v.0, λ g f m h e. rw c.without-left.ensures (bare_more f m g l.j _ _ (v.1 g f m h e) (rw (c.row_at.ensures.there (omega (arith, h.digits.sized))) (h.digits.digit l.j small))))
 
 pub returns : goal.returns
 returns c = λ g f m h e.

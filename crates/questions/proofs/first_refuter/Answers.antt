@@ -16,16 +16,13 @@ loop-g-init g c =
     let a = c.args in
     (omega arith, λ T k. (lowest-zero _, found_none (refuters_of a.relation a.n T (term_in a.p.now) (term_in a.q.now)), k))
 
-pub sift-against-requires : goal.sift-against-requires
-sift-against-requires g c = omega (arith, c.row_count-g-end.ensures, rows_few c.args.n)
-
 pub returns-then-not-empty : goal.returns-then-not-empty
 returns-then-not-empty g c T k =
     let a = c.args in
     let i = c.loop-g.invariant.1 T k in
     let R = refuters_of a.relation a.n T (term_in a.p.now) (term_in a.q.now) in
     let below : c.loop-g.g < 16 = omega (arith, c.row_count-g-end.ensures, rows_few a.n) in
-    let kept = c.sift-against.ensures T _ i.2 (still_rows_lem c.loop-g.found _ _ _ _ (opposed_here a.relation a.n _ _ c.loop-g.g _ _ _ _ _ (omega (arith, c.row_count-g-end.ensures)) c.hold.ensures c.hold-2.ensures c.rows.ensures c.rows-in-loop-g.ensures c.opposed.ensures) c.still-left.ensures) in
+    let kept = c.sift-against.ensures T _ below i.2 (still_rows_lem c.loop-g.found _ _ _ _ (opposed_here a.relation a.n _ _ c.loop-g.g _ _ _ _ _ (omega (arith, c.row_count-g-end.ensures)) c.hold.ensures c.hold-2.ensures c.rows.ensures c.rows-in-loop-g.ensures c.opposed.ensures) c.still-left.ensures) in
     let d = deciding_at a.relation a.n T (term_in a.p.now) (term_in a.q.now) c.loop-g.found c.loop-g.g _ below i.0 i.1 kept.0 in
     c.further-found.ensures
     ∙ further_is R c.loop-g.g _ c.loop-g.found below d
@@ -40,7 +37,7 @@ loop-g-preserved g c =
           let i = c.loop-g.invariant.1 T k in
           let R = refuters_of a.relation a.n T (term_in a.p.now) (term_in a.q.now) in
           let below : c.loop-g.g < 16 = omega (arith, c.row_count-g-end.ensures, rows_few a.n) in
-          let kept = c.sift-against.ensures T _ i.2 (still_rows_lem c.loop-g.found _ _ _ _ (opposed_here a.relation a.n _ _ c.loop-g.g _ _ _ _ _ (omega (arith, c.row_count-g-end.ensures)) c.hold.ensures c.hold-2.ensures c.rows.ensures c.rows-in-loop-g.ensures c.opposed.ensures) c.still-left.ensures) in
+          let kept = c.sift-against.ensures T _ below i.2 (still_rows_lem c.loop-g.found _ _ _ _ (opposed_here a.relation a.n _ _ c.loop-g.g _ _ _ _ _ (omega (arith, c.row_count-g-end.ensures)) c.hold.ensures c.hold-2.ensures c.rows.ensures c.rows-in-loop-g.ensures c.opposed.ensures) c.still-left.ensures) in
           let d = deciding_at a.relation a.n T (term_in a.p.now) (term_in a.q.now) c.loop-g.found c.loop-g.g _ below i.0 i.1 kept.0 in (
             see_clear R c.loop-g.g _ i.0 (see_still R c.loop-g.found c.loop-g.g _ (d.rows.row confidentiality)) (sym c.empty.ensures ∙ c.if-not-empty.false),
             c.further-found.ensures ∙ further_is R c.loop-g.g _ c.loop-g.found below d,

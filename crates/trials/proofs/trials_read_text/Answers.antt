@@ -1,13 +1,13 @@
--- The number and the buffer of what `read_text` gives.
+-- The number of what `read_text` gives: a length fits in 32 bits.
 use mathlib.Core.Path.{sym, ap, ◌∙◌}
 use native.Mathlib.Omega.{arith}
-use Rattle.model.specs.Answers.{Outcome}
+use Rattle.model.specs.Answers.{Outcome, number}
 use Rattle.model.proofs.Notation.{text_few}
 use Rattle.rights.proofs.Fitting.{fits}
 use Rattle.trials.proofs.trials_read_text.Goals as goal
 
-pub written_number-requires : goal.written_number-requires
-written_number-requires c =
-    let f = c.read_text in
+pub returns-clause-answered : goal.returns-clause-answered
+returns-clause-answered c =
     let a = c.args in
-    fits 64 f.result (omega arith) (λ k e. text_few a.n a.text.now a.codes.now k (sym (ap (λ (o : Outcome). o.answer) f.ensures) ∙ e))
+    let answer = ap (λ (o : Outcome). o.answer) c.read_text.ensures in
+    c.written_number.ensures (fits 64 c.read_text.result (omega arith) (λ k e. text_few a.n a.text.now a.codes.now k (sym answer ∙ e))) ∙ ap number answer

@@ -1,4 +1,5 @@
 use mathlib.Core.Path.{◌≡◌}
+use Prim.Native.Nat.{◌<◌}
 use native.Mathlib.Omega.{arith}
 use Rattle.model.specs.Sides.{confidentiality, integrity}
 use Rattle.words.specs.Evaluation.{row_count}
@@ -9,19 +10,14 @@ use Rattle.words.proofs.evaluate.Goals as goal
 pub loop-g-init : goal.loop-g-init
 loop-g-init c s = evaluated_none _ s _
 
-pub put_row-requires : goal.put_row-requires
-put_row-requires c = omega (arith, rows_few c.args.n, c.row_count-g-end.ensures, (c.loop-g.invariant confidentiality).same)
-
-pub put_row-requires-in-loop-g : goal.put_row-requires-in-loop-g
-put_row-requires-in-loop-g c = omega (arith, rows_few c.args.n, c.row_count-g-end.ensures, (c.loop-g.invariant integrity).same)
-
 pub loop-g-preserved : goal.loop-g-preserved
 loop-g-preserved c =
     let i = c.loop-g.invariant in
     let held = c.hold.ensures.held_there in
+    let few : c.loop-g.g < 16 = omega (arith, rows_few c.args.n, c.row_count-g-end.ensures) in
     elim [
-      | confidentiality ↦ rw c.put_row.ensures (evaluated_row _ confidentiality _ _ _ _ (i confidentiality) (held.row confidentiality))
-      | integrity ↦ rw c.put_row-in-loop-g.ensures (evaluated_row _ integrity _ _ _ _ (i integrity) (held.row integrity))
+      | confidentiality ↦ rw (c.put_row.ensures.there (omega (arith, few, (i confidentiality).same))) (evaluated_row _ confidentiality _ _ _ _ (i confidentiality) (held.row confidentiality))
+      | integrity ↦ rw (c.put_row-in-loop-g.ensures.there (omega (arith, few, (i integrity).same))) (evaluated_row _ integrity _ _ _ _ (i integrity) (held.row integrity))
     ]
 
 pub returns : goal.returns

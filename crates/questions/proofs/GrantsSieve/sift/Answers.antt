@@ -13,7 +13,7 @@ pub loop-k-init : goal.loop-k-init
 loop-k-init c = (refl, omega arith, λ b f h. record { rows = keep_none _ _ f _ _ h.rows; so = h.so })
 
 pub returns-then-none : goal.returns-then-none
-returns-then-none c S f k h =
+returns-then-none c S f low k h =
     let i = c.loop-k.invariant in
     let s = i.2 k.few f (record { rows = h; so = k.so }) in
     sifted_sound _ _ S f _ _ _ k _ i.0 (record { rows = keep_empty _ _ f _ _ _ _ i.1 s.rows (sym c.none.ensures ∙ c.if-none.true); so = s.so })
@@ -31,7 +31,7 @@ loop-k-preserved c =
     )
 
 pub returns : goal.returns
-returns c S f k h =
+returns c S f low k h =
     let i = c.loop-k.invariant in
     let e : c.loop-k.k ≡ c.args.self.now.asked.sizes.grants = omega arith in
     sifted_sound _ _ S f _ _ _ k _ i.0 (rw e at (i.2 k.few f (record { rows = h; so = k.so })))

@@ -8,7 +8,7 @@ ghost use Rattle.model.specs.Questions.{acts_for, flows_to};
 ghost use Rattle.model.specs.Extracts.{extract};
 ghost use Rattle.model.specs.ShortForms.{shorten};
 ghost use Rattle.model.specs.Derivations.{check_derivation};
-ghost use Rattle.std.specs.Prelude.{◌<◌, ◌^◌, IfOk};
+ghost use Rattle.std.specs.Prelude.{ℕ, Ok, ◌≤◌, ◌<◌, ◌^◌, IfOk};
 ghost use Rattle.model.specs.Answers.{Refused};
 ghost use Rattle.refusals.specs.Numbers.{refusal_number};
 ghost use Rattle.refusals.specs.Results.{written_of};
@@ -52,10 +52,11 @@ pub fn answer_number(answer: Result<Option<Refuter>, Refusal>) -> u32
     }
 }
 
-// How many bytes were written, likewise.
+// How many bytes were written, likewise; a length that no number holds is given as the largest number.
 #[tactic(auto, unfolding(model::specs::Answers::number))]
 pub fn written_number(written: Result<usize, Refusal>) -> u32
-    ensures { IfOk written (λ length. length < 2 ^ 32) → result ≡ number (written_of written) }
+    ensures fits { IfOk written (λ length. length < 2 ^ 32) → result ≡ number (written_of written) }
+    ensures long { (length : ℕ) → written ≡ Ok length → 2 ^ 32 ≤ length → result ≡ 4294967295 }
 {
     match written {
         Ok(length) => u32::try_from(length).unwrap_or(u32::MAX),

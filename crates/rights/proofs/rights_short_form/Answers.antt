@@ -9,4 +9,4 @@ pub returns-clause-answered : goal.returns-clause-answered
 returns-clause-answered c =
     let a = c.args in
     let answer = ap (λ (o : Outcome). o.answer) c.short_form.ensures in
-    c.written_number.ensures (fits 3700 c.short_form.result (omega arith) (λ k e. written_few a.n a.term.now a.buffer.now k (sym answer ∙ e))) ∙ ap number answer
+    c.written_number.ensures.fits (fits 3700 c.short_form.result (omega arith) (λ k e. written_few a.n a.term.now a.buffer.now k (sym answer ∙ e))) ∙ ap number answer

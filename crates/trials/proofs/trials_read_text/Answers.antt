@@ -10,4 +10,4 @@ pub returns-clause-answered : goal.returns-clause-answered
 returns-clause-answered c =
     let a = c.args in
     let answer = ap (λ (o : Outcome). o.answer) c.read_text.ensures in
-    c.written_number.ensures (fits 64 c.read_text.result (omega arith) (λ k e. text_few a.n a.text.now a.codes.now k (sym answer ∙ e))) ∙ ap number answer
+    c.written_number.ensures.fits (fits 64 c.read_text.result (omega arith) (λ k e. text_few a.n a.text.now a.codes.now k (sym answer ∙ e))) ∙ ap number answer

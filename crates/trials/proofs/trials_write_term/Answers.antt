@@ -10,4 +10,4 @@ pub returns-clause-answered : goal.returns-clause-answered
 returns-clause-answered c =
     let a = c.args in
     let answer = ap (λ (o : Outcome). o.answer) c.write_term.ensures in
-    c.written_number.ensures (fits 190 c.write_term.result (omega arith) (λ k e. term_few a.n a.term.now a.text.now k (sym answer ∙ e))) ∙ ap number answer
+    c.written_number.ensures.fits (fits 190 c.write_term.result (omega arith) (λ k e. term_few a.n a.term.now a.text.now k (sym answer ∙ e))) ∙ ap number answer
